@@ -1,0 +1,4 @@
+pub mod Bools
+pub mod Index
+pub mod Turns
+pub mod Refusals

@@ -1,0 +1,116 @@
+-- What it says that none of refusals 1 to 5 applies, and how they stand before an operation's others. Assumes nothing.
+use mathlib.Core.Path.{_≡_, refl, sym, _∙_}
+use mathlib.Core.Bool.{Bool, true, false, not, cond, _&&_, _||_}
+use mathlib.Core.List.{List, [], _∷_}
+use Prim.Native.Nat.{ℕ, zero, suc, _+_, _*_, _/_, _%_, _≤_, _<_}
+use native.Mathlib.Nat.{add-zero, zero-add, add-suc, suc-add}
+use native.Mathlib.Omega.{arith}
+use borrow.Author.Tests.{eqb-true, eqb-false, ltb-true, ltb-false, not-false}
+use lib.Dec.{eqb, ltb}
+use lib.ListN.{length, getD}
+use Rattle.mesh.specs.Mesh.{mesh, onMesh}
+use Rattle.mesh.specs.Blocks.{isBad, bad, allowed}
+use Rattle.mesh.specs.Refusals.{badSize, badLength, badByte, misplaced, mapRefusals}
+use Rattle.mesh.proofs.Bools.{true-false, and-both, and-right, or-none}
+use Rattle.mesh.proofs.Index.{index-row, index-column, index-within}
+
+-- a mesh and a map that refusals 1 to 5 let pass
+pub record Accepted (columns rows : ℕ) (map : List ℕ) : Type 0 where
+  pub some-columns : 1 ≤ columns
+  pub few-columns : columns ≤ 64
+  pub some-rows : 1 ≤ rows
+  pub few-rows : rows ≤ 64
+  pub size : length map ≡ columns * rows
+  pub bytes : (i : ℕ) → getD map i 0 ≤ 1
+  pub placed : (r c : ℕ) → bad (mesh columns rows map) r c ≡ true → allowed columns rows r c ≡ true
+
+good-size : (n : ℕ) → badSize n ≡ false → (1 ≤ n) × (n ≤ 64)
+unfolding badSize
+good-size n e =
+    let (a, b) = or-none (eqb n 0) (ltb 64 n) e in
+    let z = eqb-false n 0 a in
+    (omega arith, ltb-false 64 n b)
+
+good-bytes : (xs : List ℕ) → badByte xs ≡ false → (i : ℕ) → getD xs i 0 ≤ 1
+unfolding badByte
+good-bytes [] e i = omega arith
+good-bytes (x ∷ xs) e zero = ltb-false 1 x (or-none (ltb 1 x) (badByte xs) e .0)
+good-bytes (x ∷ xs) e (suc i) = good-bytes xs (or-none (ltb 1 x) (badByte xs) e .1) i
+
+well-placed : (columns rows i : ℕ) (xs : List ℕ) → misplaced columns rows i xs ≡ false → (j : ℕ) → isBad (getD xs j 0) ≡ true → allowed columns rows ((i + j) / columns) ((i + j) % columns) ≡ true
+unfolding misplaced isBad
+well-placed columns rows i [] e j b = true-false b refl
+well-placed columns rows i (x ∷ xs) e zero b =
+    let (p, q) = or-none (isBad x && not (allowed columns rows (i / columns) (i % columns))) (misplaced columns rows (suc i) xs) e in
+    rw add-zero (not-false _ (and-right (isBad x) _ b p))
+well-placed columns rows i (x ∷ xs) e (suc j) b =
+    let (p, q) = or-none (isBad x && not (allowed columns rows (i / columns) (i % columns))) (misplaced columns rows (suc i) xs) e in
+    rw (add-suc, ← suc-add) (well-placed columns rows (suc i) xs q j b)
+
+-- the five tests in a row
+first : Bool → Bool → Bool → Bool → Bool → ℕ → ℕ
+first a b d e f n = cond a 1 (cond b 2 (cond d 3 (cond e 4 (cond f 5 n))))
+
+first-some : (a b d e f : Bool) (k n : ℕ) → first a b d e f 0 ≡ suc k → first a b d e f n ≡ suc k
+unfolding first
+first-some true b d e f k n h = h
+first-some false true d e f k n h = h
+first-some false false true e f k n h = h
+first-some false false false true f k n h = h
+first-some false false false false true k n h = h
+first-some false false false false false k n h = absurd (omega arith)
+
+record None (a b d e f : Bool) : Type 0 where
+  pub a-no : a ≡ false
+  pub b-no : b ≡ false
+  pub d-no : d ≡ false
+  pub e-no : e ≡ false
+  pub f-no : f ≡ false
+
+first-none : (a b d e f : Bool) → first a b d e f 0 ≡ 0 → None a b d e f
+unfolding first
+first-none true b d e f h = absurd (omega arith)
+first-none false true d e f h = absurd (omega arith)
+first-none false false true e f h = absurd (omega arith)
+first-none false false false true f h = absurd (omega arith)
+first-none false false false false true h = absurd (omega arith)
+first-none false false false false false h = record { a-no = refl; b-no = refl; d-no = refl; e-no = refl; f-no = refl }
+
+module _ (columns rows : ℕ) (map : List ℕ) where
+  pub refused-first : {k : ℕ} (others : ℕ) → mapRefusals columns rows map 0 ≡ suc k → mapRefusals columns rows map others ≡ suc k
+  unfolding mapRefusals first
+  refused-first {k} others h =
+      first-some (badSize columns) (badSize rows) (badLength columns rows map) (badByte map) (misplaced columns rows 0 map) k others h
+
+  none-of : mapRefusals columns rows map 0 ≡ 0 → None (badSize columns) (badSize rows) (badLength columns rows map) (badByte map) (misplaced columns rows 0 map)
+  unfolding mapRefusals first
+  none-of h = first-none _ _ _ _ _ h
+
+  pub others-next : (others : ℕ) → mapRefusals columns rows map 0 ≡ 0 → mapRefusals columns rows map others ≡ others
+  unfolding mapRefusals
+  others-next others h = let n = none-of h in rw (n .a-no, n .b-no, n .d-no, n .e-no, n .f-no)
+
+  length-right : badLength columns rows map ≡ false → length map ≡ columns * rows
+  unfolding badLength
+  length-right e = eqb-true _ _ (not-false _ e)
+
+  pub accepted : mapRefusals columns rows map 0 ≡ 0 → Accepted columns rows map
+  unfolding bad onMesh
+  accepted h =
+      let n = none-of h in
+      let cs = good-size columns (n .a-no) in
+      let rs = good-size rows (n .b-no) in
+      let size = length-right (n .d-no) in
+      record {
+        some-columns = cs .0;
+        few-columns = cs .1;
+        some-rows = rs .0;
+        few-rows = rs .1;
+        size = size;
+        bytes = good-bytes map (n .e-no);
+        placed =
+            λ r c e.
+            let (on, b) = and-both {a = ltb r rows && ltb c columns} e in
+            let q = ltb-true c columns (and-both {a = ltb r rows} on .1) in
+            rw (zero-add, index-row columns r c q, index-column columns r c q) at (well-placed columns rows 0 map (n .f-no) (r * columns + c) b);
+      }

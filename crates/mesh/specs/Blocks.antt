@@ -1,0 +1,142 @@
+-- The marking of unsafe nodes, the blocks and their rings (document 01, "Blocks and rings"). Assumes nothing.
+use mathlib.Core.Bool.{Bool, true, false, not, cond, _&&_, _||_}
+use mathlib.Core.List.{List, [], _∷_}
+use Prim.Native.Nat.{ℕ, zero, suc, _+_, _*_, _/_, _%_}
+use lib.Dec.{leb, ltb, eqb}
+use lib.ListN.{getD}
+use Rattle.mesh.specs.Mesh.{Mesh, onMesh}
+
+-- faulty or unsafe
+unfoldable pub isBad : ℕ → Bool
+isBad zero = false
+isBad (suc x) = true
+
+-- the node at (r, c) is bad; places beyond the mesh are never bad
+unfoldable pub bad : Mesh → ℕ → ℕ → Bool
+bad w r c = onMesh w r c && isBad (getD (w .map) (r * w .columns + c) 0)
+
+-- A line of nodes is a row, B r, or a column. One place before n on it; nothing lies before place 0.
+abbrev pub column : (ℕ → ℕ → Bool) → ℕ → ℕ → Bool
+column B c r = B r c
+
+unfoldable pub before : (ℕ → Bool) → ℕ → Bool
+before P zero = false
+before P (suc n) = P n
+
+-- bad one place after n on a line, or one before
+unfoldable pub beside : (ℕ → Bool) → ℕ → Bool
+beside P n = P (suc n) || before P n
+
+-- bad two places after n on a line, or two before
+unfoldable pub second : (ℕ → Bool) → ℕ → Bool
+second P n = P (suc (suc n)) || before (before P) n
+
+-- Rule (a), of any account B of the bad nodes: two neighbours are bad, and not just north and south.
+-- They are east and west, or one of these with one of those.
+unfoldable pub ruleA : (ℕ → ℕ → Bool) → ℕ → ℕ → Bool
+ruleA B r c = (B r (suc c) && before (B r) c) || (beside (B r) c && beside (column B c) r)
+
+-- rule (b): its north or south neighbour is bad, and a node two columns east or west in its row is bad
+unfoldable pub ruleB : (ℕ → ℕ → Bool) → ℕ → ℕ → Bool
+ruleB B r c = beside (column B c) r && second (B r) c
+
+unfoldable pub unsafe : (ℕ → ℕ → Bool) → ℕ → ℕ → Bool
+unsafe B r c = ruleA B r c || ruleB B r c
+
+-- a sound node that the rules make unsafe becomes 2
+unfoldable pub become : Bool → ℕ → ℕ
+become true zero = 2
+become false zero = 0
+become true (suc x) = suc x
+become false (suc x) = suc x
+
+-- the numbers from index i of the map on, each with the rules' verdict
+unfoldable pub turn : (ℕ → Bool) → ℕ → List ℕ → List ℕ
+turn u i [] = []
+turn u i (x ∷ xs) = become (u i) x ∷ turn u (suc i) xs
+
+-- one round, all nodes at once
+unfoldable pub round : Mesh → List ℕ
+round w = turn (λ i. unsafe (bad w) (i / w .columns) (i % w .columns)) 0 (w .map)
+
+-- the same mesh with another map
+abbrev pub on : Mesh → List ℕ → Mesh
+on w m = record { columns = w .columns; rows = w .rows; map = m }
+
+unfoldable pub sameList : List ℕ → List ℕ → Bool
+sameList [] [] = true
+sameList [] (y ∷ ys) = false
+sameList (x ∷ xs) [] = false
+sameList (x ∷ xs) (y ∷ ys) = eqb x y && sameList xs ys
+
+-- rounds until nothing changes, at most k
+unfoldable pub settle : ℕ → Mesh → List ℕ
+settle zero w = w .map
+settle (suc k) w =
+    let next = round w in
+    let rest = settle k (on w next) in
+    cond (sameList next (w .map)) (w .map) rest
+
+-- the least marking of a fault map; a round that changes something adds a node, so these rounds are enough
+abbrev pub marked : Mesh → Mesh
+marked w = on w (settle (suc (w .columns * w .rows)) w)
+
+-- a block, by its south-west node and its numbers of rows and columns
+pub record Block : Type 0 where
+  pub row : ℕ
+  pub column : ℕ
+  pub height : ℕ
+  pub width : ℕ
+
+abbrev pub count : Bool → ℕ → ℕ
+count true n = suc n
+count false n = 0
+
+-- how many of P c, P (c + 1), .. hold in a row, of the first k
+unfoldable pub run : ℕ → (ℕ → Bool) → ℕ → ℕ
+run zero P c = 0
+run (suc k) P c =
+    let on = run k P (suc c) in
+    count (P c) on
+
+-- a south-west corner: bad, and neither its west nor its south neighbour is
+unfoldable pub corner : (ℕ → ℕ → Bool) → ℕ → ℕ → Bool
+corner B r c = B r c && not (before (B r) c || before (column B c) r)
+
+-- the block from that corner: as far as the bad nodes go north and east of it
+unfoldable pub blockAt : ℕ → ℕ → (ℕ → ℕ → Bool) → ℕ → ℕ → Block
+blockAt columns rows B r c =
+    record { row = r; column = c; height = run rows (column B c) r; width = run columns (B r) c }
+
+-- those f i, f (i + 1), .., of the first n, whose t i holds
+unfoldable pub select : {A : Type 0} → (ℕ → Bool) → (ℕ → A) → ℕ → ℕ → List A
+select t f zero i = []
+select t f (suc n) i =
+    let rest = select t f n (suc i) in
+    let more = f i ∷ rest in
+    cond (t i) more rest
+
+-- The blocks of a marked mesh, by their corners. That these are exactly its maximal connected sets of bad nodes is shown in block_theory.
+unfoldable pub blocks : Mesh → List Block
+blocks w =
+    select (λ i. corner (bad w) (i / w .columns) (i % w .columns))
+    (λ i. blockAt (w .columns) (w .rows) (bad w) (i / w .columns) (i % w .columns))
+    (w .columns * w .rows)
+    0
+
+-- (r, c) lies in b with its surroundings: so many rows below and above, so many columns west and east
+unfoldable pub reaches : ℕ → ℕ → Block → ℕ → ℕ → Bool
+reaches i j b r c =
+    (leb (b .row) (r + i) && ltb r (b .height + b .row + i)) && (leb (b .column) (c + j) && ltb c (b .width + b .column + j))
+
+-- b's ring: all places outside it, from one row below to one row above, and from two columns west to two columns east
+unfoldable pub onRing : Block → ℕ → ℕ → Bool
+onRing b r c = reaches 1 2 b r c && not (reaches 0 0 b r c)
+
+unfoldable pub onSomeRing : List Block → ℕ → ℕ → Bool
+onSomeRing [] r c = false
+onSomeRing (b ∷ bs) r c = onRing b r c || onSomeRing bs r c
+
+-- where a fault may lie: columns 2 to columns - 3 and rows 1 to rows - 2
+unfoldable pub allowed : ℕ → ℕ → ℕ → ℕ → Bool
+allowed columns rows r c = (leb 1 r && ltb (r + 1) rows) && (leb 2 c && ltb (c + 2) columns)

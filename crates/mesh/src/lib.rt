@@ -1,0 +1,63 @@
+// The types of the routing exercise. What they mean, and every rule of document 01, is defined in specs/.
+
+// A row number and a column number. They are kept apart, so that neither can be handed over for the other.
+pub struct Row(pub u32);
+
+pub struct Column(pub u32);
+
+pub struct Place {
+    pub row: Row,
+    pub column: Column,
+}
+
+// The direction of a hop: east raises the column, north raises the row.
+pub enum Heading {
+    East,
+    North,
+    South,
+    West,
+}
+
+// A packet's last hop.
+pub enum Last {
+    None,
+    Made(Heading),
+}
+
+pub struct Packet {
+    pub place: Place,
+    pub last: Last,
+    pub destination: Place,
+}
+
+// The refusals, in the order of their numbers (specs/Refusals.antt): 1 to 10.
+pub enum Refusal {
+    Columns,
+    Rows,
+    MapLength,
+    MapByte,
+    FaultPlace,
+    OffMesh,
+    InBlock,
+    OnRing,
+    Unlawful,
+    Room,
+}
+
+// Whether some of the refusals apply.
+pub enum Checked {
+    Clear,
+    Refused(Refusal),
+}
+
+// What marking the blocks answers.
+pub enum Marked {
+    Blocks(u32),
+    Refused(Refusal),
+}
+
+// What routing answers.
+pub enum Routed {
+    Hops(u32),
+    Refused(Refusal),
+}
