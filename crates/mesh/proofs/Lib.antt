@@ -1,4 +1,5 @@
 pub mod Bools
 pub mod Index
 pub mod Turns
+pub mod Some
 pub mod Refusals

@@ -10,8 +10,9 @@ use lib.Dec.{eqb, ltb}
 use lib.ListN.{length, getD}
 use Rattle.mesh.specs.Mesh.{mesh, onMesh}
 use Rattle.mesh.specs.Blocks.{isBad, bad, allowed}
-use Rattle.mesh.specs.Refusals.{badSize, badLength, badByte, misplaced, mapRefusals}
+use Rattle.mesh.specs.Refusals.{badSize, badLength, some, badByte, misplacedAt, misplaced, mapRefusals}
 use Rattle.mesh.proofs.Bools.{true-false, and-both, and-right, or-none}
+use Rattle.mesh.proofs.Some.{none-passes}
 use Rattle.mesh.proofs.Index.{index-row, index-column, index-within}
 
 -- a mesh and a map that refusals 1 to 5 let pass
@@ -21,31 +22,28 @@ pub record Accepted (columns rows : ℕ) (map : List ℕ) : Type 0 where
   pub some-rows : 1 ≤ rows
   pub few-rows : rows ≤ 64
   pub size : length map ≡ columns * rows
-  pub bytes : (i : ℕ) → getD map i 0 ≤ 1
+  pub bytes : (i : ℕ) → i < length map → getD map i 0 ≤ 1
   pub placed : (r c : ℕ) → bad (mesh columns rows map) r c ≡ true → allowed columns rows r c ≡ true
 
-good-size : (n : ℕ) → badSize n ≡ false → (1 ≤ n) × (n ≤ 64)
+pub good-size : (n : ℕ) → badSize n ≡ false → (1 ≤ n) × (n ≤ 64)
 unfolding badSize
 good-size n e =
     let (a, b) = or-none (eqb n 0) (ltb 64 n) e in
     let z = eqb-false n 0 a in
     (omega arith, ltb-false 64 n b)
 
-good-bytes : (xs : List ℕ) → badByte xs ≡ false → (i : ℕ) → getD xs i 0 ≤ 1
-unfolding badByte
-good-bytes [] e i = omega arith
-good-bytes (x ∷ xs) e zero = ltb-false 1 x (or-none (ltb 1 x) (badByte xs) e .0)
-good-bytes (x ∷ xs) e (suc i) = good-bytes xs (or-none (ltb 1 x) (badByte xs) e .1) i
+pub good-length : (columns rows : ℕ) (map : List ℕ) → badLength columns rows map ≡ false → length map ≡ columns * rows
+unfolding badLength
+good-length columns rows map e = eqb-true _ _ (not-false _ e)
 
-well-placed : (columns rows i : ℕ) (xs : List ℕ) → misplaced columns rows i xs ≡ false → (j : ℕ) → isBad (getD xs j 0) ≡ true → allowed columns rows ((i + j) / columns) ((i + j) % columns) ≡ true
-unfolding misplaced isBad
-well-placed columns rows i [] e j b = true-false b refl
-well-placed columns rows i (x ∷ xs) e zero b =
-    let (p, q) = or-none (isBad x && not (allowed columns rows (i / columns) (i % columns))) (misplaced columns rows (suc i) xs) e in
-    rw add-zero (not-false _ (and-right (isBad x) _ b p))
-well-placed columns rows i (x ∷ xs) e (suc j) b =
-    let (p, q) = or-none (isBad x && not (allowed columns rows (i / columns) (i % columns))) (misplaced columns rows (suc i) xs) e in
-    rw (add-suc, ← suc-add) (well-placed columns rows (suc i) xs q j b)
+good-bytes : (xs : List ℕ) → badByte xs ≡ false → (i : ℕ) → i < length xs → getD xs i 0 ≤ 1
+unfolding badByte
+good-bytes xs e i h = ltb-false 1 _ (none-passes (λ i x. ltb 1 x) 0 xs e i h)
+
+well-placed : (columns rows : ℕ) (xs : List ℕ) → misplaced columns rows xs ≡ false → (i : ℕ) → i < length xs → isBad (getD xs i 0) ≡ true → allowed columns rows (i / columns) (i % columns) ≡ true
+unfolding misplaced misplacedAt
+well-placed columns rows xs e i h b =
+    not-false _ (and-right (isBad (getD xs i 0)) _ b (rw zero-add at (none-passes (misplacedAt columns rows) 0 xs e i h)))
 
 -- the five tests in a row
 first : Bool → Bool → Bool → Bool → Bool → ℕ → ℕ
@@ -80,9 +78,9 @@ module _ (columns rows : ℕ) (map : List ℕ) where
   pub refused-first : {k : ℕ} (others : ℕ) → mapRefusals columns rows map 0 ≡ suc k → mapRefusals columns rows map others ≡ suc k
   unfolding mapRefusals first
   refused-first {k} others h =
-      first-some (badSize columns) (badSize rows) (badLength columns rows map) (badByte map) (misplaced columns rows 0 map) k others h
+      first-some (badSize columns) (badSize rows) (badLength columns rows map) (badByte map) (misplaced columns rows map) k others h
 
-  none-of : mapRefusals columns rows map 0 ≡ 0 → None (badSize columns) (badSize rows) (badLength columns rows map) (badByte map) (misplaced columns rows 0 map)
+  none-of : mapRefusals columns rows map 0 ≡ 0 → None (badSize columns) (badSize rows) (badLength columns rows map) (badByte map) (misplaced columns rows map)
   unfolding mapRefusals first
   none-of h = first-none _ _ _ _ _ h
 
@@ -90,17 +88,13 @@ module _ (columns rows : ℕ) (map : List ℕ) where
   unfolding mapRefusals
   others-next others h = let n = none-of h in rw (n .a-no, n .b-no, n .d-no, n .e-no, n .f-no)
 
-  length-right : badLength columns rows map ≡ false → length map ≡ columns * rows
-  unfolding badLength
-  length-right e = eqb-true _ _ (not-false _ e)
-
   pub accepted : mapRefusals columns rows map 0 ≡ 0 → Accepted columns rows map
   unfolding bad onMesh
   accepted h =
       let n = none-of h in
       let cs = good-size columns (n .a-no) in
       let rs = good-size rows (n .b-no) in
-      let size = length-right (n .d-no) in
+      let size = good-length columns rows map (n .d-no) in
       record {
         some-columns = cs .0;
         few-columns = cs .1;
@@ -111,6 +105,8 @@ module _ (columns rows : ℕ) (map : List ℕ) where
         placed =
             λ r c e.
             let (on, b) = and-both {a = ltb r rows && ltb c columns} e in
+            let p = ltb-true r rows (and-both on .0) in
             let q = ltb-true c columns (and-both {a = ltb r rows} on .1) in
-            rw (zero-add, index-row columns r c q, index-column columns r c q) at (well-placed columns rows 0 map (n .f-no) (r * columns + c) b);
+            let i : r * columns + c < length map = rw size (index-within columns r c q rows p) in
+            rw (index-row columns r c q, index-column columns r c q) at (well-placed columns rows map (n .f-no) (r * columns + c) i b);
       }

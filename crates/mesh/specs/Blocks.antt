@@ -1,10 +1,10 @@
 -- The marking of unsafe nodes, the blocks and their rings (document 01, "Blocks and rings"). Assumes nothing.
 use mathlib.Core.Bool.{Bool, true, false, not, cond, _&&_, _||_}
 use mathlib.Core.List.{List, [], _∷_}
-use Prim.Native.Nat.{ℕ, zero, suc, _+_, _*_, _/_, _%_}
+use Prim.Native.Nat.{ℕ, zero, suc, _+_, _-_, _*_, _/_, _%_}
 use lib.Dec.{leb, ltb, eqb}
 use lib.ListN.{getD}
-use Rattle.mesh.specs.Mesh.{Mesh, onMesh}
+use Rattle.mesh.specs.Mesh.{Mesh, onMesh, Heading, E, N, S, W}
 
 -- faulty or unsafe
 unfoldable pub isBad : ℕ → Bool
@@ -15,30 +15,25 @@ isBad (suc x) = true
 unfoldable pub bad : Mesh → ℕ → ℕ → Bool
 bad w r c = onMesh w r c && isBad (getD (w .map) (r * w .columns + c) 0)
 
--- A line of nodes is a row, B r, or a column. One place before n on it; nothing lies before place 0.
-abbrev pub column : (ℕ → ℕ → Bool) → ℕ → ℕ → Bool
-column B c r = B r c
+-- the node k hops that way from (r, c) is bad, of any account B of the bad nodes; nothing lies south of row 0 or west of column 0
+unfoldable pub ahead : (ℕ → ℕ → Bool) → Heading → ℕ → ℕ → ℕ → Bool
+ahead B E k r c = B r (c + k)
+ahead B N k r c = B (r + k) c
+ahead B S k r c = leb k r && B (r - k) c
+ahead B W k r c = leb k c && B r (c - k)
 
-unfoldable pub before : (ℕ → Bool) → ℕ → Bool
-before P zero = false
-before P (suc n) = P n
+-- its north or south neighbour is bad
+unfoldable pub upright : (ℕ → ℕ → Bool) → ℕ → ℕ → Bool
+upright B r c = ahead B N 1 r c || ahead B S 1 r c
 
--- bad one place after n on a line, or one before
-unfoldable pub beside : (ℕ → Bool) → ℕ → Bool
-beside P n = P (suc n) || before P n
-
--- bad two places after n on a line, or two before
-unfoldable pub second : (ℕ → Bool) → ℕ → Bool
-second P n = P (suc (suc n)) || before (before P) n
-
--- Rule (a), of any account B of the bad nodes: two neighbours are bad, and not just north and south.
--- They are east and west, or one of these with one of those.
+-- rule (a): two neighbours are bad, and these aren't just north and south: they are east and west, or one of these and one of those
 unfoldable pub ruleA : (ℕ → ℕ → Bool) → ℕ → ℕ → Bool
-ruleA B r c = (B r (suc c) && before (B r) c) || (beside (B r) c && beside (column B c) r)
+ruleA B r c =
+    (ahead B E 1 r c && ahead B W 1 r c) || ((ahead B E 1 r c || ahead B W 1 r c) && upright B r c)
 
 -- rule (b): its north or south neighbour is bad, and a node two columns east or west in its row is bad
 unfoldable pub ruleB : (ℕ → ℕ → Bool) → ℕ → ℕ → Bool
-ruleB B r c = beside (column B c) r && second (B r) c
+ruleB B r c = upright B r c && (ahead B E 2 r c || ahead B W 2 r c)
 
 unfoldable pub unsafe : (ℕ → ℕ → Bool) → ℕ → ℕ → Bool
 unsafe B r c = ruleA B r c || ruleB B r c
@@ -101,12 +96,12 @@ run (suc k) P c =
 
 -- a south-west corner: bad, and neither its west nor its south neighbour is
 unfoldable pub corner : (ℕ → ℕ → Bool) → ℕ → ℕ → Bool
-corner B r c = B r c && not (before (B r) c || before (column B c) r)
+corner B r c = B r c && not (ahead B W 1 r c || ahead B S 1 r c)
 
 -- the block from that corner: as far as the bad nodes go north and east of it
 unfoldable pub blockAt : ℕ → ℕ → (ℕ → ℕ → Bool) → ℕ → ℕ → Block
 blockAt columns rows B r c =
-    record { row = r; column = c; height = run rows (column B c) r; width = run columns (B r) c }
+    record { row = r; column = c; height = run rows (λ x. B x c) r; width = run columns (B r) c }
 
 -- those f i, f (i + 1), .., of the first n, whose t i holds
 unfoldable pub select : {A : Type 0} → (ℕ → Bool) → (ℕ → A) → ℕ → ℕ → List A

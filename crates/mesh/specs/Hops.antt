@@ -1,9 +1,10 @@
 -- The hop rules (document 01, "The hop rules"), over any account of the bad nodes and either parity. The packet is at (r, c), its last hop is l.
 -- Assumes nothing.
 use mathlib.Core.Bool.{Bool, false, not, cond, _&&_, _||_}
-use Prim.Native.Nat.{ℕ, _+_, _-_}
-use lib.Dec.{leb, ltb, eqb}
+use Prim.Native.Nat.{ℕ}
+use lib.Dec.{ltb, eqb}
 use Rattle.mesh.specs.Mesh.{Heading, E, N, S, W, Last, none, made}
+use Rattle.mesh.specs.Blocks.{ahead}
 
 -- what the rules look at besides the packet: the mesh, its bad nodes, the columns that permit NW and SW, and the destination (R, C)
 pub record Trip : Type 0 where
@@ -16,10 +17,7 @@ pub record Trip : Type 0 where
 
 -- the node k hops that way is in a block; none beyond the mesh is
 unfoldable pub blocked : Trip → Heading → ℕ → ℕ → ℕ → Bool
-blocked w E k r c = w .bad r (c + k)
-blocked w N k r c = w .bad (r + k) c
-blocked w S k r c = leb k r && w .bad (r - k) c
-blocked w W k r c = leb k c && w .bad r (c - k)
+blocked w h k r c = ahead (w .bad) h k r c
 
 -- side: E if C > c, else W
 unfoldable pub side : Trip → ℕ → Heading

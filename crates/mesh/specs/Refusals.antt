@@ -39,16 +39,22 @@ badSize n = eqb n 0 || ltb 64 n
 unfoldable pub badLength : ℕ → ℕ → List ℕ → Bool
 badLength columns rows map = not (eqb (length map) (columns * rows))
 
+-- some number of a list passes a test, which is given its index too; the first one's index is i
+unfoldable pub some : (ℕ → ℕ → Bool) → ℕ → List ℕ → Bool
+some t i [] = false
+some t i (x ∷ xs) = t i x || some t (suc i) xs
+
 -- 4: a map byte above 1
 unfoldable pub badByte : List ℕ → Bool
-badByte [] = false
-badByte (x ∷ xs) = ltb 1 x || badByte xs
+badByte map = some (λ i x. ltb 1 x) 0 map
 
--- 5: a fault where none is allowed, from index i of the map on
-unfoldable pub misplaced : ℕ → ℕ → ℕ → List ℕ → Bool
-misplaced columns rows i [] = false
-misplaced columns rows i (x ∷ xs) =
-    (isBad x && not (allowed columns rows (i / columns) (i % columns))) || misplaced columns rows (suc i) xs
+-- a fault at index i of the map, where none is allowed
+unfoldable pub misplacedAt : ℕ → ℕ → ℕ → ℕ → Bool
+misplacedAt columns rows i x = isBad x && not (allowed columns rows (i / columns) (i % columns))
+
+-- 5: a fault where none is allowed
+unfoldable pub misplaced : ℕ → ℕ → List ℕ → Bool
+misplaced columns rows map = some (misplacedAt columns rows) 0 map
 
 -- 6: source or destination off the mesh
 unfoldable pub offMesh : Mesh → Place → Bool
@@ -71,7 +77,7 @@ unfoldable pub mapRefusals : ℕ → ℕ → List ℕ → ℕ → ℕ
 mapRefusals columns rows map others =
     cond (badSize columns) 1
     (cond (badSize rows) 2
-    (cond (badLength columns rows map) 3 (cond (badByte map) 4 (cond (misplaced columns rows 0 map) 5 others))))
+    (cond (badLength columns rows map) 3 (cond (badByte map) 4 (cond (misplaced columns rows map) 5 others))))
 
 -- refusals 6 and 7 on the marked mesh, and after them the others
 unfoldable pub placeRefusals : Mesh → Place → Place → ℕ → ℕ

@@ -1,0 +1,10 @@
+-- A map of the size of its mesh, which has at most 64 columns and rows. Assumes nothing.
+use mathlib.Core.Path.{_≡_}
+use mathlib.Core.List.{List}
+use Prim.Native.Nat.{ℕ, _*_, _≤_}
+use lib.ListN.{length}
+
+pub record Sized (columns rows : ℕ) (map : List ℕ) : Type 0 where
+  pub few-columns : columns ≤ 64
+  pub few-rows : rows ≤ 64
+  pub size : length map ≡ columns * rows
