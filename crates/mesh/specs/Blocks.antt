@@ -46,13 +46,13 @@ become true (suc x) = suc x
 become false (suc x) = suc x
 
 -- the numbers from index i of the map on, each with the rules' verdict
-unfoldable pub turn : (ℕ → Bool) → ℕ → List ℕ → List ℕ
-turn u i [] = []
-turn u i (x ∷ xs) = become (u i) x ∷ turn u (suc i) xs
+unfoldable pub advance : (ℕ → Bool) → ℕ → List ℕ → List ℕ
+advance u i [] = []
+advance u i (x ∷ xs) = become (u i) x ∷ advance u (suc i) xs
 
 -- one round, all nodes at once
 unfoldable pub round : Mesh → List ℕ
-round w = turn (λ i. unsafe (bad w) (i / w .columns) (i % w .columns)) 0 (w .map)
+round w = advance (λ i. unsafe (bad w) (i / w .columns) (i % w .columns)) 0 (w .map)
 
 -- the same mesh with another map
 abbrev pub on : Mesh → List ℕ → Mesh

@@ -9,7 +9,7 @@ use lib.Dec.{T, eqb}
 use lib.ListN.{set, replicate}
 use Rattle.mesh.specs.declared.Place.{Place}
 use Rattle.mesh.specs.Mesh.{mesh, onMesh, rowAfter, columnAfter, letter, letters}
-use Rattle.mesh.specs.Blocks.{isBad, bad, ahead, upright, ruleA, ruleB, unsafe, become, turn, round, sameList, settle, marked, Block, run, corner, blockAt, select, blocks, reaches, onRing, onSomeRing, allowed}
+use Rattle.mesh.specs.Blocks.{isBad, bad, ahead, upright, ruleA, ruleB, unsafe, become, advance, round, sameList, settle, marked, Block, run, corner, blockAt, select, blocks, reaches, onRing, onSomeRing, allowed}
 use Rattle.mesh.specs.Turns.{turnsWest}
 use Rattle.mesh.specs.Hops.{blocked, side, toward, own, stopped, again, atDestination, inRow, leaving, across, nearing, otherRow, hop}
 use Rattle.mesh.specs.Walk.{moved, arrived, hopAt, walk, shutIn, distance, detours, bound}
@@ -80,5 +80,5 @@ starred =
     []
 
 pub starred-hold : T (allHold starred)
-unfolding starred allHold holds A B C refusal bytes edges onMesh isBad bad ahead upright ruleA ruleB unsafe become turn round sameList settle run corner blockAt select blocks reaches onRing onSomeRing allowed turnsWest blocked side toward own stopped again atDestination inRow leaving across nearing otherRow hop rowAfter columnAfter letter letters moved arrived hopAt walk shutIn distance detours bound badSize badLength some badByte misplacedAt misplaced offMesh inBlock onARing unserved mapRefusals placeRefusals hopsOf routeRefusal
+unfolding starred allHold holds A B C refusal bytes edges onMesh isBad bad ahead upright ruleA ruleB unsafe become advance round sameList settle run corner blockAt select blocks reaches onRing onSomeRing allowed turnsWest blocked side toward own stopped again atDestination inRow leaving across nearing otherRow hop rowAfter columnAfter letter letters moved arrived hopAt walk shutIn distance detours bound badSize badLength some badByte misplacedAt misplaced offMesh inBlock onARing unserved mapRefusals placeRefusals hopsOf routeRefusal
 starred-hold = tt
