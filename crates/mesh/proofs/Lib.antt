@@ -3,3 +3,4 @@ pub mod Index
 pub mod Turns
 pub mod Some
 pub mod Refusals
+pub mod Answers

@@ -1,19 +1,36 @@
 -- What it says that none of refusals 1 to 5 applies, and how they stand before an operation's others. Assumes nothing.
 use mathlib.Core.Path.{_≡_, refl, sym, _∙_}
-use mathlib.Core.Bool.{Bool, true, false, not, cond, _&&_, _||_}
-use mathlib.Core.List.{List, [], _∷_}
-use Prim.Native.Nat.{ℕ, zero, suc, _+_, _*_, _/_, _%_, _≤_, _<_}
-use native.Mathlib.Nat.{add-zero, zero-add, add-suc, suc-add}
+use mathlib.Core.Bool.{Bool, true, false, cond, _&&_}
+use mathlib.Core.List.{List}
+use Prim.Native.Nat.{ℕ, suc, _+_, _*_, _/_, _%_, _≤_, _<_, pred}
+use native.Mathlib.Nat.{zero-add}
 use native.Mathlib.Omega.{arith}
 use borrow.Author.Tests.{eqb-true, eqb-false, ltb-true, ltb-false, not-false}
 use lib.Dec.{eqb, ltb}
 use lib.ListN.{length, getD}
+use Rattle.mesh.specs.declared.Refusal.{Refusal}
+use Rattle.mesh.specs.declared.Refusal.the-variants.{Columns, Rows, MapLength, MapByte, FaultPlace, OffMesh, InBlock, OnRing, Unlawful, Room}
+use Rattle.mesh.specs.declared.Checked.{Checked}
+use Rattle.mesh.specs.declared.Checked.the-variants.{Clear, Refused}
 use Rattle.mesh.specs.Mesh.{mesh, onMesh}
 use Rattle.mesh.specs.Blocks.{isBad, bad, allowed}
-use Rattle.mesh.specs.Refusals.{badSize, badLength, some, badByte, misplacedAt, misplaced, mapRefusals}
-use Rattle.mesh.proofs.Bools.{true-false, and-both, and-right, or-none}
+use Rattle.mesh.specs.Refusals.{number, checkedNumber, badSize, badLength, badByte, misplacedAt, misplaced, mapRefusals}
+use Rattle.mesh.proofs.Bools.{and-both, and-right, or-none}
 use Rattle.mesh.proofs.Some.{none-passes}
 use Rattle.mesh.proofs.Index.{index-row, index-column, index-within}
+
+pub number-some : (why : Refusal) → number why ≡ suc (pred (number why))
+unfolding number
+number-some Columns = refl
+number-some Rows = refl
+number-some MapLength = refl
+number-some MapByte = refl
+number-some FaultPlace = refl
+number-some OffMesh = refl
+number-some InBlock = refl
+number-some OnRing = refl
+number-some Unlawful = refl
+number-some Room = refl
 
 -- a mesh and a map that refusals 1 to 5 let pass
 pub record Accepted (columns rows : ℕ) (map : List ℕ) : Type 0 where
@@ -83,6 +100,16 @@ module _ (columns rows : ℕ) (map : List ℕ) where
   none-of : mapRefusals columns rows map 0 ≡ 0 → None (badSize columns) (badSize rows) (badLength columns rows map) (badByte map) (misplaced columns rows map)
   unfolding mapRefusals first
   none-of h = first-none _ _ _ _ _ h
+
+  pub map-refused : {x : Checked} {why : Refusal} (others : ℕ) → x ≡ Refused why → checkedNumber x ≡ mapRefusals columns rows map 0 → mapRefusals columns rows map others ≡ number why
+  unfolding checkedNumber
+  map-refused {x} {why} others e h =
+      let first : mapRefusals columns rows map 0 ≡ number why = sym h ∙ rw e in
+      refused-first others (first ∙ number-some why) ∙ sym (number-some why)
+
+  pub map-clear : {x : Checked} → x ≡ Clear → checkedNumber x ≡ mapRefusals columns rows map 0 → mapRefusals columns rows map 0 ≡ 0
+  unfolding checkedNumber
+  map-clear e h = sym h ∙ rw e
 
   pub others-next : (others : ℕ) → mapRefusals columns rows map 0 ≡ 0 → mapRefusals columns rows map others ≡ others
   unfolding mapRefusals

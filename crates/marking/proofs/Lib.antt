@@ -1,0 +1,5 @@
+pub mod Rules
+pub mod Copy
+pub mod Rounds
+pub mod Corners
+pub mod Marks
