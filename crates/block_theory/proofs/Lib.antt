@@ -1,2 +1,5 @@
 pub mod Rules
 pub mod Marking
+pub mod Lines
+pub mod Rings
+pub mod Rectangles
