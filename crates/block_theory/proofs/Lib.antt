@@ -1,5 +1,9 @@
 pub mod Rules
 pub mod Marking
 pub mod Lines
-pub mod Rings
 pub mod Rectangles
+pub mod Apart
+pub mod Connected
+pub mod Listed
+pub mod Margins
+pub mod Rings

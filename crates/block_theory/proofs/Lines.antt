@@ -60,6 +60,9 @@ module _ (P : ℕ → Bool) where
           | no q ↦ true-false (all (run k P c + c) (omega arith) (omega arith)) (run-ends k c (run k P c + c) h refl)
         ]
 
+    pub run-some : (k c : ℕ) → b ≤ k + c → P c ≡ true → 0 < run k P c
+    run-some k c h e = omega (arith, run-reaches k c c h (omega arith) (λ z p q. let s : z ≡ c = omega arith in rw s e))
+
 -- where the run that holds c begins
 pub record Lead (P : ℕ → Bool) (c : ℕ) : Type 0 where
   pub start : ℕ

@@ -8,7 +8,7 @@ use Rattle.mesh.specs.Blocks.{Block, run, blockAt}
 use Rattle.block_theory.specs.Blocks.{Within, OnRing}
 use Rattle.block_theory.specs.Obstacles.{Walled}
 use Rattle.block_theory.proofs.Rules.{column, Settled}
-use Rattle.block_theory.proofs.Lines.{Begins, Spans, run-holds, run-ends, run-reaches, lead, Alike, same}
+use Rattle.block_theory.proofs.Lines.{Begins, Spans, run-holds, run-ends, run-reaches, run-some, lead, Alike, same}
 
 -- bad nodes throughout, and none just beside
 record Rectangle (B : ℕ → ℕ → Bool) (b : Block) : Type 0 where
@@ -80,8 +80,8 @@ module _ {columns rows : ℕ} {B : ℕ → ℕ → Bool} (S : Settled columns ro
   unfolding blockAt
   rectangle r c k =
       record {
-        tall = omega (arith, run-reaches (column B c) rows (λ x. north-edge x c) rows r r (omega arith) (omega arith) (λ z p q. let s : z ≡ r = omega arith in rw s (k .is-bad)));
-        wide = omega (arith, run-reaches (B r) columns (east-edge r) columns c c (omega arith) (omega arith) (λ z p q. let s : z ≡ c = omega arith in rw s (k .is-bad)));
+        tall = run-some (column B c) rows (λ x. north-edge x c) rows r (omega arith) (k .is-bad);
+        wide = run-some (B r) columns (east-edge r) columns c (omega arith) (k .is-bad);
         row-spans = spans B diagonal r c rows columns (k .west) east-edge;
         column-spans = spans (column B) columns-alike c r columns rows (k .south) (λ y x. north-edge x y);
       }
