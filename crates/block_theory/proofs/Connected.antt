@@ -8,7 +8,7 @@ use native.Mathlib.Decide.{le-ind}
 use native.Mathlib.Omega.{arith}
 use Rattle.mesh.specs.Blocks.{Block, reaches}
 use Rattle.mesh.proofs.Bools.{true-false, value}
-use Rattle.block_theory.specs.Blocks.{Neighbour, north, south, east, west, Joined, here, go, IsBlock, Within, OnRing, Apart}
+use Rattle.block_theory.specs.Blocks.{Neighbour, north, south, east, west, Joined, here, go, IsBlock, Within, Apart}
 use Rattle.block_theory.specs.Obstacles.{Listed, Walled, InBlock, Pairs}
 use Rattle.block_theory.proofs.Rings.{reaches-told, reaches-true}
 use Rattle.block_theory.proofs.Apart.{apart-nodes, pairs-map}

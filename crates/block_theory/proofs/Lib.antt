@@ -2,8 +2,11 @@ pub mod Rules
 pub mod Marking
 pub mod Lines
 pub mod Rectangles
+pub mod Rings
 pub mod Apart
 pub mod Connected
 pub mod Listed
 pub mod Margins
-pub mod Rings
+pub mod Near
+pub mod Area
+pub mod Theorems

@@ -6,7 +6,6 @@ use Prim.Native.Nat.{ℕ, zero, suc, _+_, _-_, _≤_, _<_}
 use native.Mathlib.Decide.{decLt, decLe, le-ind}
 use native.Mathlib.Omega.{arith}
 use borrow.Author.Tests.{le-leb, lt-leb}
-use lib.Dec.{leb}
 use Rattle.mesh.specs.Blocks.{run}
 use Rattle.mesh.proofs.Bools.{true-false, value}
 use Rattle.block_theory.proofs.Rules.{before}

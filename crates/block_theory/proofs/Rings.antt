@@ -1,14 +1,13 @@
 -- A block's nodes and its ring, told by Bools and by records: each from the other. Assumes nothing.
 use mathlib.Core.Path.{_≡_, refl}
-use mathlib.Core.Logic.{_↔_, inl, inr}
-use mathlib.Core.Bool.{Bool, true, false, not, _&&_, _||_, or-true}
+use mathlib.Core.Logic.{inl, inr}
+use mathlib.Core.Bool.{true, false, or-true}
 use mathlib.Core.List.{List, [], _∷_, List·Memᴰ·head, List·Memᴰ·tail, List·Memᴰ·not-nil, List·Memᴰ·cases-cons}
-use Prim.Native.Nat.{ℕ, _+_}
+use Prim.Native.Nat.{ℕ}
 use borrow.Author.Tests.{leb-true, ltb-true, le-leb, lt-ltb, not-true}
-use lib.Dec.{leb, ltb}
 use Rattle.mesh.specs.Blocks.{Block, reaches, onRing, onSomeRing}
 use Rattle.mesh.proofs.Bools.{true-false, value, and-both, or-cases}
-use Rattle.block_theory.specs.Blocks.{Reaches, Within, OnRing}
+use Rattle.block_theory.specs.Blocks.{Reaches, OnRing}
 use Rattle.block_theory.specs.Obstacles.{Listed}
 
 module _ (i j : ℕ) (b : Block) (r c : ℕ) where
