@@ -55,16 +55,16 @@ module _ {B : ℕ → ℕ → Bool} where
   pub walled-apart : {a b : Block} → Walled B a → Walled B b → (a .row ≡ b .row → a .column ≡ b .column → ⊥) → Apart a b
   walled-apart {a} {b} k l differ =
       elim (decLe (a .width + a .column + 2) (b .column)) [
-        | yes h ↦ by-east h
+        | yes h ↦ by-east (omega arith)
         | no e ↦
             elim (decLe (b .width + b .column + 2) (a .column)) [
-              | yes h ↦ by-west h
+              | yes h ↦ by-west (omega arith)
               | no w ↦
                   elim (decLe (a .height + a .row + 1) (b .row)) [
-                    | yes h ↦ by-north h
+                    | yes h ↦ by-north (omega arith)
                     | no n ↦
                         elim (decLe (b .height + b .row + 1) (a .row))
-                        [ yes h ↦ by-south h | no s ↦ let m = close-same k l (omega arith) in absurd (differ (m .0) (m .1)) ]
+                        [ yes h ↦ by-south (omega arith) | no s ↦ let m = close-same k l (omega arith) in absurd (differ (m .0) (m .1)) ]
                   ]
             ]
       ]

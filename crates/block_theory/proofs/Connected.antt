@@ -8,19 +8,20 @@ use native.Mathlib.Decide.{le-ind}
 use native.Mathlib.Omega.{arith}
 use Rattle.mesh.specs.Blocks.{Block, reaches}
 use Rattle.mesh.proofs.Bools.{true-false, value}
-use Rattle.block_theory.specs.Blocks.{Neighbour, north, south, east, west, Joined, here, go, IsBlock, Within, Apart}
-use Rattle.block_theory.specs.Obstacles.{Listed, Walled, InBlock, Pairs}
-use Rattle.block_theory.proofs.Rings.{reaches-told, reaches-true}
+use Rattle.block_theory.specs.Blocks.{Neighbour, north, south, east, west, Joined, here, go, Unjoined, IsBlock, Within, Apart}
+use Rattle.block_theory.specs.Obstacles.{Listed, Walled, InBlock, IsListed, Pairs}
+use Rattle.block_theory.proofs.Rings.{reaches-told, reaches-not}
 use Rattle.block_theory.proofs.Apart.{apart-nodes, pairs-map}
 
 -- to and fro along a line that lies in the set from c to y
-slide : (J S : ℕ → Type 0) → ((y : ℕ) → J y → S (suc y) → J (suc y)) → ((y : ℕ) → J (suc y) → S y → J y) → (c y : ℕ) → c ≤ y → ((z : ℕ) → c ≤ z → z ≤ y → S z) → J c ↔ J y
-slide J S up down c =
-    le-ind (λ y. ((z : ℕ) → c ≤ z → z ≤ y → S z) → J c ↔ J y)
-    (λ all. (λ j. j, λ j. j))
-    (λ y h ih all.
-    let i = ih (λ z p q. all z p (omega arith)) in
-    (λ j. up y (i .0 j) (all (suc y) (omega arith) (omega arith)), λ j. i .1 (down y j (all y h (omega arith)))))
+module _ (J S : ℕ → Type 0) (up : (y : ℕ) → J y → S (suc y) → J (suc y)) (down : (y : ℕ) → J (suc y) → S y → J y) where
+  slide : (c y : ℕ) → c ≤ y → ((z : ℕ) → c ≤ z → z ≤ y → S z) → J c ↔ J y
+  slide c =
+      le-ind (λ y. ((z : ℕ) → c ≤ z → z ≤ y → S z) → J c ↔ J y)
+      (λ all. (λ j. j, λ j. j))
+      (λ y h ih all.
+      let i = ih (λ z p q. all z p (omega arith)) in
+      (λ j. up y (i .0 j) (all (suc y) (omega arith) (omega arith)), λ j. i .1 (down y j (all y h (omega arith)))))
 
 -- A rectangle is connected: from any node along its row to the first column, along that to another row, and along that.
 module _ (b : Block) where
@@ -53,7 +54,7 @@ module _ {B : ℕ → ℕ → Bool} where
         | inr h ↦
             let d = neighbour-close n in
             true-false e
-            (k .ring x y (record { near = omega arith; outside = λ w. true-false (reaches-true 0 0 b x y w) h }))
+            (k .ring x y (record { near = omega arith; outside = reaches-not 0 0 b x y h }))
       ]
 
   pub walled-block : {b : Block} → Walled B b → IsBlock B (Within b)
@@ -74,16 +75,6 @@ module _ {B : ℕ → ℕ → Bool} where
 
   block-within : {S T : ℕ → ℕ → Type 0} → IsBlock B S → IsBlock B T → {r c : ℕ} → S r c → T r c → (x y : ℕ) → S x y → T x y
   block-within s t {r} {c} i j x y k = joined-stays (s .are-bad) t j (s .connected r c x y i k)
-
--- a set of nodes is that of a listed block
-pub record IsListed (bs : List Block) (Set : ℕ → ℕ → Type 0) : Type 0 where
-  pub block : Block
-  pub listed : Listed block bs
-  pub nodes : (x y : ℕ) → Set x y ↔ Within block x y
-
--- no node of a is joined to a node of b through bad nodes
-pub record Unjoined (B : ℕ → ℕ → Bool) (a b : Block) : Type 0 where
-  pub unjoined : (r c x y : ℕ) → Within a r c → Within b x y → Joined (λ x y. B x y ≡ true) r c x y → ⊥
 
 module _ {B : ℕ → ℕ → Bool} {bs : List Block} (walled : (b : Block) → Listed b bs → Walled B b) where
   pub block-listed : ((x y : ℕ) → B x y ≡ true → InBlock bs x y) → {Set : ℕ → ℕ → Type 0} → IsBlock B Set → IsListed bs Set

@@ -14,10 +14,14 @@ use Rattle.block_theory.proofs.Rules.{before}
 abbrev pub Begins : (ℕ → Bool) → ℕ → Type 0
 Begins P c = (y : ℕ) → suc y ≡ c → P y ≡ false
 
+-- P is v at the w places from c on
+abbrev pub All : (ℕ → Bool) → Bool → ℕ → ℕ → Type 0
+All P v c w = (y : ℕ) → c ≤ y → y < w + c → P y ≡ v
+
 -- P holds from c on for w places, and neither just before nor just after
 pub record Spans (P : ℕ → Bool) (c w : ℕ) : Type 0 where
   pub begins : Begins P c
-  pub holds : (y : ℕ) → c ≤ y → y < w + c → P y ≡ true
+  pub holds : All P true c w
   pub ends : (y : ℕ) → y ≡ w + c → P y ≡ false
 
 module _ (P : ℕ → Bool) where

@@ -8,7 +8,7 @@ use Rattle.mesh.specs.Blocks.{Block, run, blockAt}
 use Rattle.block_theory.specs.Blocks.{Within, OnRing}
 use Rattle.block_theory.specs.Obstacles.{Walled}
 use Rattle.block_theory.proofs.Rules.{column, Settled}
-use Rattle.block_theory.proofs.Lines.{Begins, Spans, run-holds, run-ends, run-reaches, run-some, lead, Alike, same}
+use Rattle.block_theory.proofs.Lines.{Begins, All, Spans, run-holds, run-ends, run-reaches, run-some, lead, Alike, same}
 
 -- bad nodes throughout, and none just beside
 record Rectangle (B : ℕ → ℕ → Bool) (b : Block) : Type 0 where
@@ -24,53 +24,56 @@ pub record Corner (B : ℕ → ℕ → Bool) (r c : ℕ) : Type 0 where
   pub south : Begins (column B c) r
 
 -- The lines from r on that hold c, all of them as long as the first.
-spans : (line : ℕ → ℕ → Bool) → ((x : ℕ) → Alike (line x) (line (suc x))) → (r c h k : ℕ) → Begins (line r) c → ((x y : ℕ) → k ≤ y → line x y ≡ false) → (x : ℕ) → r ≤ x → x < run h (column line c) r + r → Spans (line x) c (run k (line r) c)
-spans line alike r c h k b out x p q =
-    let s = same line alike k c r x p (λ z u v. run-holds (column line c) h r z u (omega arith)) in
-    record {
-      begins = λ y e. s .west y e ∙ b y e;
-      holds = λ y u v. run-holds (line x) k c y u (rw (s .east) v);
-      ends = λ y u. run-ends (line x) k (out x) k c y (omega arith) (rw (s .east) u);
-    }
+module _ (line : ℕ → ℕ → Bool) (alike : (x : ℕ) → Alike (line x) (line (suc x))) (r c h k : ℕ) where
+  spans : Begins (line r) c → ((x y : ℕ) → k ≤ y → line x y ≡ false) → (x : ℕ) → r ≤ x → x < run h (column line c) r + r → Spans (line x) c (run k (line r) c)
+  spans b out x p q =
+      let s = same line alike k c r x p (λ z u v. run-holds (column line c) h r z u (omega arith)) in
+      record {
+        begins = λ y e. s .west y e ∙ b y e;
+        holds = λ y u v. run-holds (line x) k c y u (rw (s .east) v);
+        ends = λ y u. run-ends (line x) k (out x) k c y (omega arith) (rw (s .east) u);
+      }
 
--- A line that holds c and the w - 1 places after it, and one beside it that holds none of them: nor does that hold the two places before and after.
-fringe : (P Q : ℕ → Bool) → ((y y′ : ℕ) → y ≤ y′ → y′ ≤ y + 2 → P y && Q y′ ≡ Q y && P y′) → (c w : ℕ) → 0 < w → ((y : ℕ) → c ≤ y → y < w + c → P y ≡ true) → ((y : ℕ) → c ≤ y → y < w + c → Q y ≡ false) → (y : ℕ) → c ≤ y + 2 → y < w + c + 2 → Q y ≡ false
-fringe P Q near c w o p q y u v =
-    elim (decLt y c) [
-      | yes h ↦ sym (simp (p c (omega arith) (omega arith), q c (omega arith) (omega arith), and-true, and-false) at (near y c (omega arith) (omega arith)))
-      | no h ↦
-          elim (decLt y (w + c)) [
-            | yes k ↦ q y (omega arith) k
-            | no k ↦
-                let z = pred (w + c) in
-                rw (p z (omega arith) (omega arith), q z (omega arith) (omega arith)) at (near z y (omega arith) (omega arith))
-          ]
-    ]
+-- A line P that holds w places from c on, and a place y at most two before or after them.
+module _ (P : ℕ → Bool) (c w : ℕ) (some : 0 < w) (y : ℕ) (low : c ≤ y + 2) (high : y < w + c + 2) where
+  -- a line beside it that holds none of them does not hold y
+  fringe : (Q : ℕ → Bool) → ((y y′ : ℕ) → y ≤ y′ → y′ ≤ y + 2 → P y && Q y′ ≡ Q y && P y′) → All P true c w → All Q false c w → Q y ≡ false
+  fringe Q near p q =
+      elim (decLt y c) [
+        | yes h ↦ sym (simp (p c (omega arith) (omega arith), q c (omega arith) (omega arith), and-true, and-false) at (near y c (omega arith) (omega arith)))
+        | no h ↦
+            elim (decLt y (w + c)) [
+              | yes k ↦ q y (omega arith) k
+              | no k ↦
+                  let z = pred (w + c) in
+                  rw (p z (omega arith) (omega arith), q z (omega arith) (omega arith)) at (near z y (omega arith) (omega arith))
+            ]
+      ]
 
--- A line that spans w places from c, with no two bad nodes two apart round one that is not: it does not hold the two places before and after.
-flank : (P : ℕ → Bool) → ((y : ℕ) → P (suc y) ≡ false → P y && P (suc (suc y)) ≡ false) → (c w : ℕ) → 0 < w → Spans P c w → (y : ℕ) → c ≤ y + 2 → y < w + c + 2 → (c ≤ y → y < w + c → ⊥) → P y ≡ false
-flank P between c w o s y u v out =
-    elim (decLt y c) [
-      | yes h ↦
-          elim (decLt (suc y) c) [
-            | yes k ↦ simp (s .holds (suc (suc y)) (omega arith) (omega arith), and-true) at (between y (s .begins (suc y) (omega arith)))
-            | no k ↦ s .begins y (omega arith)
-          ]
-      | no h ↦
-          elim (decLe y (w + c)) [
-            | yes k ↦ s .ends y (elim (decLt y (w + c)) [ yes i ↦ absurd (out (omega arith) i) | no i ↦ omega arith ])
-            | no k ↦
-                let z = y - 2 in
-                let e : y ≡ suc (suc z) = omega arith in
-                rw e (rw (s .holds z (omega arith) (omega arith)) at (between z (s .ends (suc z) (omega arith))))
-          ]
-    ]
+  -- if it spans just them, and has no two bad nodes two apart round one that is not, it does not hold y outside
+  flank : ((y : ℕ) → P (suc y) ≡ false → P y && P (suc (suc y)) ≡ false) → Spans P c w → (c ≤ y → y < w + c → ⊥) → P y ≡ false
+  flank between s out =
+      elim (decLt y c) [
+        | yes h ↦
+            elim (decLt (suc y) c) [
+              | yes k ↦ simp (s .holds (suc (suc y)) (omega arith) (omega arith), and-true) at (between y (s .begins (suc y) (omega arith)))
+              | no k ↦ s .begins y (omega arith)
+            ]
+        | no h ↦
+            elim (decLe y (w + c)) [
+              | yes k ↦ s .ends y (elim (decLt y (w + c)) [ yes i ↦ absurd (out (omega arith) i) | no i ↦ omega arith ])
+              | no k ↦
+                  let z = y - 2 in
+                  let e : y ≡ suc (suc z) = omega arith in
+                  rw e (rw (s .holds z (omega arith) (omega arith)) at (between z (s .ends (suc z) (omega arith))))
+            ]
+      ]
 
 module _ {columns rows : ℕ} {B : ℕ → ℕ → Bool} (S : Settled columns rows B) where
   open Settled S using (near, between, east-edge, north-edge)
 
   -- of a two by two square, one pair of diagonal nodes is bad exactly if the other is
-  pub diagonal : (x y : ℕ) → B x y && B (suc x) (suc y) ≡ B (suc x) y && B x (suc y)
+  diagonal : (x y : ℕ) → B x y && B (suc x) (suc y) ≡ B (suc x) y && B x (suc y)
   diagonal x y = near x y (suc y) (omega arith) (omega arith)
 
   columns-alike : (y : ℕ) → Alike (column B y) (column B (suc y))
@@ -118,23 +121,24 @@ module _ {columns rows : ℕ} {B : ℕ → ℕ → Bool} (S : Settled columns ro
       let n = o .near in
       elim (decLt x (b .row)) [
         | yes h ↦
-            fringe (B (suc x)) (B x) (λ y y′ p q. sym (near x y y′ p q)) (b .column) (b .width) (k .wide)
+            fringe (B (suc x)) (b .column) (b .width) (k .wide) y (omega arith) (omega arith) (B x)
+            (λ y y′ p q. sym (near x y y′ p q))
             (k .row-spans (suc x) (omega arith) (omega arith) .holds)
             (λ y p q. k .column-spans y p q .begins x (omega arith))
-            y (n .west) (n .east)
         | no h ↦
             elim (decLt x (b .height + b .row)) [
               | yes i ↦
-                  flank (B x) (between x) (b .column) (b .width) (k .wide) (k .row-spans x (omega arith) i) y (n .west) (n .east)
+                  flank (B x) (b .column) (b .width) (k .wide) y (omega arith) (omega arith) (between x)
+                  (k .row-spans x (omega arith) i)
                   (λ p q. o .outside (omega arith))
               | no i ↦
                   let z = pred x in
                   let e : x ≡ suc z = omega arith in
                   rw e
-                  (fringe (B z) (B (suc z)) (near z) (b .column) (b .width) (k .wide)
+                  (fringe (B z) (b .column) (b .width) (k .wide) y (omega arith) (omega arith) (B (suc z))
+                  (near z)
                   (k .row-spans z (omega arith) (omega arith) .holds)
-                  (λ y p q. k .column-spans y p q .ends (suc z) (omega arith))
-                  y (n .west) (n .east))
+                  (λ y p q. k .column-spans y p q .ends (suc z) (omega arith)))
             ]
       ]
 

@@ -4,6 +4,7 @@ use mathlib.Core.Logic.{inl, inr}
 use mathlib.Core.Bool.{true, false, or-true}
 use mathlib.Core.List.{List, [], _∷_, List·Memᴰ·head, List·Memᴰ·tail, List·Memᴰ·not-nil, List·Memᴰ·cases-cons}
 use Prim.Native.Nat.{ℕ}
+use native.Mathlib.Omega.{arith}
 use borrow.Author.Tests.{leb-true, ltb-true, le-leb, lt-ltb, not-true}
 use Rattle.mesh.specs.Blocks.{Block, reaches, onRing, onSomeRing}
 use Rattle.mesh.proofs.Bools.{true-false, value, and-both, or-cases}
@@ -23,6 +24,9 @@ module _ (i j : ℕ) (b : Block) (r c : ℕ) where
   unfolding reaches
   reaches-true k = rw (le-leb _ _ (k .south), lt-ltb _ _ (k .north), le-leb _ _ (k .west), lt-ltb _ _ (k .east))
 
+  pub reaches-not : reaches i j b r c ≡ false → Reaches i j b r c → ⊥
+  reaches-not e k = true-false (reaches-true k) e
+
   pub reaches-false : (Reaches i j b r c → ⊥) → reaches i j b r c ≡ false
   reaches-false h = elim (value (reaches i j b r c)) [ inl e ↦ absurd (h (reaches-told e)) | inr e ↦ e ]
 
@@ -31,14 +35,12 @@ module _ (b : Block) (r c : ℕ) where
   unfolding onRing
   onRing-told e =
       let (p, q) = and-both e in
-      record {
-        near = reaches-told 1 2 b r c p;
-        outside = λ i. true-false (reaches-true 0 0 b r c i) (not-true _ q);
-      }
+      let n = reaches-told 1 2 b r c p in
+      record { near = omega arith; outside = reaches-not 0 0 b r c (not-true _ q) }
 
   pub onRing-true : OnRing b r c → onRing b r c ≡ true
   unfolding onRing
-  onRing-true k = rw (reaches-true 1 2 b r c (k .near), reaches-false 0 0 b r c (k .outside))
+  onRing-true k = rw (reaches-true 1 2 b r c (omega arith), reaches-false 0 0 b r c (k .outside))
 
 -- (r, c) is on the ring of a listed block
 pub record OnSomeRing (bs : List Block) (r c : ℕ) : Type 0 where

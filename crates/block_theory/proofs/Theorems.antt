@@ -10,11 +10,11 @@ use Rattle.mesh.specs.Blocks.{bad, marked, Block, blocks, allowed}
 use Rattle.mesh.specs.Walk.{detours}
 use Rattle.mesh.proofs.Refusals.{Accepted}
 use Rattle.block_theory.specs.Marking.{Closed, Holds}
-use Rattle.block_theory.specs.Blocks.{IsBlock, Within, OnRing, Fits, Apart}
-use Rattle.block_theory.specs.Obstacles.{Listed, Pairs, Obstacles}
+use Rattle.block_theory.specs.Blocks.{Unjoined, IsBlock, Within, OnRing, Fits, Apart}
+use Rattle.block_theory.specs.Obstacles.{Listed, IsListed, Pairs, Obstacles}
 use Rattle.block_theory.proofs.Marking.{marked-closed, marked-holds, marked-least}
 use Rattle.block_theory.proofs.Apart.{listed-apart}
-use Rattle.block_theory.proofs.Connected.{IsListed, Unjoined, walled-block, block-listed, apart-unjoined}
+use Rattle.block_theory.proofs.Connected.{walled-block, block-listed, apart-unjoined}
 use Rattle.block_theory.proofs.Listed.{blocks-walled, bad-in-block, blocks-apart}
 use Rattle.block_theory.proofs.Margins.{allowed-closed, walled-fits}
 use Rattle.block_theory.proofs.Area.{detours-bounded}
