@@ -29,11 +29,11 @@ module _ (w : Mesh) (size : length (w .map) ≡ w .columns * w .rows) where
   pub marking-is-closed : Closed (w .columns) (w .rows) (bad (marked w))
   marking-is-closed = marked-closed w size
 
-  -- every such marking holds it
+  -- and every closed marking that holds the faults holds it
   pub marking-is-least : (Q : ℕ → ℕ → Bool) → Closed (w .columns) (w .rows) Q → Holds (bad w) Q → Holds (bad (marked w)) Q
   marking-is-least = marked-least w size
 
-  -- every block, as a connected set of bad nodes that is joined to no further one, is a rectangle, and listed
+  -- every block (a connected set of bad nodes to which no further one is joined) is a listed rectangle
   pub blocks-are-rectangles : {Set : ℕ → ℕ → Type 0} → IsBlock (bad (marked w)) Set → IsListed (blocks (marked w)) Set
   blocks-are-rectangles =
       block-listed (blocks-walled (marked w) marking-is-closed) (bad-in-block (marked w) marking-is-closed)
@@ -50,7 +50,7 @@ module _ (w : Mesh) (size : length (w .map) ≡ w .columns * w .rows) where
   pub any-blocks-are-apart : (a b : Block) → Listed a (blocks (marked w)) → Listed b (blocks (marked w)) → (a ≡ b) ⊎ Apart a b
   any-blocks-are-apart = listed-apart blocks-are-apart
 
-  -- no two places of the list are of the same block: the number of blocks is the list's length
+  -- no listed block is joined to a later one: the list's length is the number of blocks
   pub each-block-once : Pairs (Unjoined (bad (marked w))) (blocks (marked w))
   each-block-once = apart-unjoined (blocks-walled (marked w) marking-is-closed) blocks-are-apart
 
