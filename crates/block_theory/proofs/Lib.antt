@@ -1,2 +1,12 @@
 pub mod Rules
 pub mod Marking
+pub mod Lines
+pub mod Rectangles
+pub mod Rings
+pub mod Apart
+pub mod Connected
+pub mod Listed
+pub mod Margins
+pub mod Near
+pub mod Area
+pub mod Theorems

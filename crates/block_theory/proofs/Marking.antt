@@ -62,7 +62,7 @@ safe [] = 0
 safe (zero ∷ xs) = suc (safe xs)
 safe (suc x ∷ xs) = safe xs
 
-safe-le : (xs : List ℕ) → safe xs ≤ length xs
+pub safe-le : (xs : List ℕ) → safe xs ≤ length xs
 unfolding safe
 safe-le [] = omega arith
 safe-le (zero ∷ xs) = omega (arith, safe-le xs)

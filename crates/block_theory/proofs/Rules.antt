@@ -20,7 +20,7 @@ column B c r = B r c
 abbrev pub before : (ℕ → Bool) → ℕ → ℕ → Bool
 before P k n = leb k n && P (n - k)
 
-abbrev beside : (ℕ → Bool) → ℕ → ℕ → Bool
+abbrev pub beside : (ℕ → Bool) → ℕ → ℕ → Bool
 beside P k n = P (n + k) || before P k n
 
 -- P holds at some other place, at most d from n
@@ -37,7 +37,7 @@ pub data Reason (B : ℕ → ℕ → Bool) (r c : ℕ) : Type 0 where
   crossed : Nearby 1 (column B c) r → Nearby 2 (B r) c → Reason B r c
 
 module _ (P : ℕ → Bool) (n : ℕ) where
-  beside-nearby : (k d : ℕ) → 1 ≤ k → k ≤ d → beside P k n ≡ true → Nearby d P n
+  pub beside-nearby : (k d : ℕ) → 1 ≤ k → k ≤ d → beside P k n ≡ true → Nearby d P n
   beside-nearby k d l h e =
       elim (or-cases (P (n + k)) (before P k n) e) [
         | inl u ↦ record { place = n + k; here = u; other = omega arith; low = omega arith; high = omega arith }
@@ -71,13 +71,13 @@ module _ (P : ℕ → Bool) (n : ℕ) where
             }
       ]
 
-  nearby-beside : Nearby 1 P n → beside P 1 n ≡ true
+  pub nearby-beside : Nearby 1 P n → beside P 1 n ≡ true
   nearby-beside k =
       let u = nearby-distance k in
       let e : u .far ≡ 1 = omega arith in
       rw e at (u .there)
 
-  nearby-second : Nearby 2 P n → beside P 1 n || beside P 2 n ≡ true
+  pub nearby-second : Nearby 2 P n → beside P 1 n || beside P 2 n ≡ true
   nearby-second k =
       let u = nearby-distance k in
       elim (decLe (u .far) 1) [

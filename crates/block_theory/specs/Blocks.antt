@@ -36,6 +36,10 @@ pub record Reaches (i j : ℕ) (b : Block) (r c : ℕ) : Type 0 where
 abbrev pub Within : Block → ℕ → ℕ → Type 0
 Within b r c = Reaches 0 0 b r c
 
+-- no node of a is joined to a node of b through bad nodes
+pub record Unjoined (B : ℕ → ℕ → Bool) (a b : Block) : Type 0 where
+  pub unjoined : (r c x y : ℕ) → Within a r c → Within b x y → Joined (λ x y. B x y ≡ true) r c x y → ⊥
+
 -- (r, c) is a place of b's ring
 pub record OnRing (b : Block) (r c : ℕ) : Type 0 where
   pub near : Reaches 1 2 b r c

@@ -1,5 +1,6 @@
 -- All that routing sees of a marking: a list of rectangles of bad nodes, with nothing bad in their rings. Assumes nothing.
 use mathlib.Core.Path.{_≡_}
+use mathlib.Core.Logic.{_↔_}
 use mathlib.Core.Bool.{Bool, true, false}
 use mathlib.Core.List.{List, [], _∷_, List·Memᴰ}
 use Prim.Native.Nat.{ℕ, _<_}
@@ -21,6 +22,12 @@ pub record InBlock (bs : List Block) (x y : ℕ) : Type 0 where
   pub block : Block
   pub listed : Listed block bs
   pub within : Within block x y
+
+-- a set of nodes is a listed block's
+pub record IsListed (bs : List Block) (Set : ℕ → ℕ → Type 0) : Type 0 where
+  pub block : Block
+  pub listed : Listed block bs
+  pub nodes : (x y : ℕ) → Set x y ↔ Within block x y
 
 -- R between each member of a list and each later one
 pub data Pairs {A : Type 0} (R : A → A → Type 0) : List A → Type 0 where

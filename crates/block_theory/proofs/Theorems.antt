@@ -1,0 +1,84 @@
+-- What is shown of the marking and the blocks of document 01. Each theorem is proved in the file that its proof cites. Assumes nothing.
+use mathlib.Core.Path.{_≡_}
+use mathlib.Core.Logic.{_⊎_}
+use mathlib.Core.Bool.{Bool, false}
+use mathlib.Core.List.{List}
+use Prim.Native.Nat.{ℕ, _*_, _≤_}
+use lib.ListN.{length}
+use Rattle.mesh.specs.Mesh.{Mesh, mesh}
+use Rattle.mesh.specs.Blocks.{bad, marked, Block, blocks, allowed}
+use Rattle.mesh.specs.Walk.{detours}
+use Rattle.mesh.proofs.Refusals.{Accepted}
+use Rattle.block_theory.specs.Marking.{Closed, Holds}
+use Rattle.block_theory.specs.Blocks.{Unjoined, IsBlock, Within, OnRing, Fits, Apart}
+use Rattle.block_theory.specs.Obstacles.{Listed, IsListed, Pairs, Obstacles}
+use Rattle.block_theory.proofs.Marking.{marked-closed, marked-holds, marked-least}
+use Rattle.block_theory.proofs.Apart.{listed-apart}
+use Rattle.block_theory.proofs.Connected.{walled-block, block-listed, apart-unjoined}
+use Rattle.block_theory.proofs.Listed.{blocks-walled, bad-in-block, blocks-apart}
+use Rattle.block_theory.proofs.Margins.{allowed-closed, walled-fits}
+use Rattle.block_theory.proofs.Area.{detours-bounded}
+
+-- Of any map with a number for each node.
+module _ (w : Mesh) (size : length (w .map) ≡ w .columns * w .rows) where
+  -- the marking holds the faults
+  pub marking-holds-faults : Holds (bad w) (bad (marked w))
+  marking-holds-faults = marked-holds w size
+
+  -- no rule adds to it
+  pub marking-is-closed : Closed (w .columns) (w .rows) (bad (marked w))
+  marking-is-closed = marked-closed w size
+
+  -- and every closed marking that holds the faults holds it
+  pub marking-is-least : (Q : ℕ → ℕ → Bool) → Closed (w .columns) (w .rows) Q → Holds (bad w) Q → Holds (bad (marked w)) Q
+  marking-is-least = marked-least w size
+
+  -- every block (a connected set of bad nodes to which no further one is joined) is a listed rectangle
+  pub blocks-are-rectangles : {Set : ℕ → ℕ → Type 0} → IsBlock (bad (marked w)) Set → IsListed (blocks (marked w)) Set
+  blocks-are-rectangles =
+      block-listed (blocks-walled (marked w) marking-is-closed) (bad-in-block (marked w) marking-is-closed)
+
+  -- every listed rectangle is a block
+  pub listed-are-blocks : (b : Block) → Listed b (blocks (marked w)) → IsBlock (bad (marked w)) (Within b)
+  listed-are-blocks b m = walled-block (blocks-walled (marked w) marking-is-closed b m)
+
+  -- at least 3 apart in column number or 2 in row number: each from each later one
+  pub blocks-are-apart : Pairs Apart (blocks (marked w))
+  blocks-are-apart = blocks-apart (marked w) marking-is-closed
+
+  -- and any two
+  pub any-blocks-are-apart : (a b : Block) → Listed a (blocks (marked w)) → Listed b (blocks (marked w)) → (a ≡ b) ⊎ Apart a b
+  any-blocks-are-apart = listed-apart blocks-are-apart
+
+  -- no listed block is joined to a later one: the list's length is the number of blocks
+  pub each-block-once : Pairs (Unjoined (bad (marked w))) (blocks (marked w))
+  each-block-once = apart-unjoined (blocks-walled (marked w) marking-is-closed) blocks-are-apart
+
+  -- no place of a ring is bad
+  pub ring-is-free : (b : Block) → Listed b (blocks (marked w)) → (x y : ℕ) → OnRing b x y → bad (marked w) x y ≡ false
+  ring-is-free b m = blocks-walled (marked w) marking-is-closed b m .ring
+
+  -- faults in the allowed places only: every ring fits the mesh
+  pub rings-fit : Holds (bad w) (allowed (w .columns) (w .rows)) → (b : Block) → Listed b (blocks (marked w)) → Fits (w .columns) (w .rows) b
+  rings-fit placed b m =
+      walled-fits (w .columns) (w .rows)
+      (marking-is-least (allowed (w .columns) (w .rows)) (allowed-closed (w .columns) (w .rows)) placed)
+      (blocks-walled (marked w) marking-is-closed b m)
+
+-- Of a map that refusals 1 to 5 let pass.
+module _ {columns rows : ℕ} {map : List ℕ} (a : Accepted columns rows map) where
+  -- all that routing needs of the marking and its blocks
+  pub obstacles : Obstacles columns rows (bad (marked (mesh columns rows map))) (blocks (marked (mesh columns rows map)))
+  obstacles =
+      let w = mesh columns rows map in
+      let closed = marking-is-closed w (a .size) in
+      record {
+        walled = blocks-walled (marked w) closed;
+        in-block = bad-in-block (marked w) closed;
+        apart = blocks-apart (marked w) closed;
+        fits = rings-fit w (a .size) (record { holds = a .placed });
+      }
+
+  -- the bound on the detours round all blocks
+  pub detours-are-bounded : detours (blocks (marked (mesh columns rows map))) ≤ 6 * (rows * columns)
+  detours-are-bounded = detours-bounded obstacles
