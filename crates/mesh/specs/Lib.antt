@@ -5,4 +5,6 @@ pub mod Hops
 pub mod Walk
 pub mod Refusals
 pub mod Operations
+pub mod Packets
+pub mod Judging
 pub mod Cases

@@ -20,7 +20,16 @@ forbidden west c W h = false
 unfoldable pub reverses : Heading → Heading → Bool
 reverses g h = same h (opposite g)
 
--- a hop in column c after the last one: no reversal, no forbidden turn; the first hop makes no turn
+-- the hop reverses the last one; the first hop makes no turn
+unfoldable pub turnsBack : Last → Heading → Bool
+turnsBack none h = false
+turnsBack (made g) h = reverses g h
+
+-- the hop makes a forbidden turn in column c
+unfoldable pub turnsWrong : (ℕ → Bool) → ℕ → Last → Heading → Bool
+turnsWrong west c none h = false
+turnsWrong west c (made g) h = forbidden west c g h
+
+-- a hop in column c after the last one: no reversal, no forbidden turn
 unfoldable pub mayTurn : (ℕ → Bool) → ℕ → Last → Heading → Bool
-mayTurn west c none h = true
-mayTurn west c (made g) h = not (reverses g h) && not (forbidden west c g h)
+mayTurn west c l h = not (turnsBack l h) && not (turnsWrong west c l h)

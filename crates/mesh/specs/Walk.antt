@@ -26,16 +26,16 @@ unfoldable pub moved : Heading → At → At
 moved h p = record { row = rowAfter h (p .row); column = columnAfter h (p .column); last = made h }
 
 -- a hop that way stays on the mesh
-unfoldable pub stays : Trip → Heading → ℕ → ℕ → Bool
-stays w E r c = ltb (c + 1) (w .columns)
-stays w N r c = ltb (r + 1) (w .rows)
-stays w S r c = leb 1 r
-stays w W r c = leb 1 c
+unfoldable pub stays : ℕ → ℕ → Heading → ℕ → ℕ → Bool
+stays columns rows E r c = ltb (c + 1) columns
+stays columns rows N r c = ltb (r + 1) rows
+stays columns rows S r c = leb 1 r
+stays columns rows W r c = leb 1 c
 
 -- lawful: the hop stays on the mesh, enters no block, is no reversal and no forbidden turn
 unfoldable pub lawful : Trip → At → Heading → Bool
 lawful w p h =
-    stays w h (p .row) (p .column) && (not (blocked w h 1 (p .row) (p .column)) && mayTurn (w .west) (p .column) (p .last) h)
+    stays (w .columns) (w .rows) h (p .row) (p .column) && (not (blocked w h 1 (p .row) (p .column)) && mayTurn (w .west) (p .column) (p .last) h)
 
 unfoldable pub arrived : Trip → At → Bool
 arrived w p = atDestination w (p .row) (p .column)

@@ -50,6 +50,28 @@ pub enum Checked {
     Refused(Refusal),
 }
 
+// What a byte of a hand-in says.
+pub enum Letter {
+    Hop(Heading),
+    Other,
+}
+
+// What is wrong with a hand-in, in the order of their numbers (specs/Judging.antt): 11 to 16.
+pub enum Fault {
+    NoLetter,
+    LeavesMesh,
+    Reverses,
+    ForbiddenTurn,
+    EntersBlock,
+    NotArrived,
+}
+
+// Whether a letter of a hand-in is lawful.
+pub enum Tested {
+    Lawful,
+    Wrong(Fault),
+}
+
 // What marking the blocks answers.
 pub enum Marked {
     Blocks(u32),
@@ -59,5 +81,12 @@ pub enum Marked {
 // What routing answers.
 pub enum Routed {
     Hops(u32),
+    Refused(Refusal),
+}
+
+// What judging answers: the length, or what is wrong and the index of that letter.
+pub enum Judged {
+    Passed(usize),
+    Failed(Fault, usize),
     Refused(Refusal),
 }

@@ -1,0 +1,38 @@
+-- By the heading. Assumes nothing.
+use borrow.Author.Needs.{needs}
+use Rattle.mesh.specs.Mesh.{letter}
+use Rattle.turns.proofs.letter.Statement.{statement}
+use Rattle.turns.proofs.letter.Tie as tie
+
+enum-told : tie.Need-enum-told
+enum-told c = search needs
+
+returns : tie.Need-returns
+unfolding letter
+returns c = rw (c .enum-told .given .1)
+
+enum-told-2 : tie.Need-enum-told-2
+enum-told-2 c = search needs
+
+returns-2 : tie.Need-returns-2
+unfolding letter
+returns-2 c = rw (c .enum-told2 .given .1)
+
+enum-told-3 : tie.Need-enum-told-3
+enum-told-3 c = search needs
+
+returns-3 : tie.Need-returns-3
+unfolding letter
+returns-3 c = rw (c .enum-told3 .given .1)
+
+enum-told-4 : tie.Need-enum-told-4
+enum-told-4 c = search needs
+
+returns-4 : tie.Need-returns-4
+unfolding letter
+returns-4 c = rw (c .enum-told4 .given .1)
+
+pub letter-spec : {M : Type 1} → statement M
+letter-spec =
+    tie.close
+    (tie.spec enum-told returns enum-told-2 returns-2 enum-told-3 returns-3 enum-told-4 returns-4)
