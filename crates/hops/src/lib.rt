@@ -1,0 +1,121 @@
+// A packet's hop: whether it is lawful, and the packet after it.
+ghost use mathlib.Core.Path.{_≡_};
+ghost use Prim.Native.Nat.{_<_};
+ghost use Rattle.mesh.specs.declared.Letter.the-variants.{Hop};
+ghost use Rattle.mesh.specs.Mesh.{mesh, rowAfter, columnAfter};
+ghost use Rattle.mesh.specs.Walk.{stays};
+ghost use Rattle.mesh.specs.Packets.{place, at, tripOf, isThere, movedPacket};
+ghost use Rattle.mesh.specs.Judging.{testedNumber, letterFault};
+ghost use Rattle.maps.specs.Sized.{Sized};
+ghost use Rattle.hops.specs.Lands.{Lands};
+use maps::is_bad_ahead;
+use mesh::Column;
+use mesh::Fault;
+use mesh::Heading;
+use mesh::Last;
+use mesh::Packet;
+use mesh::Place;
+use mesh::Row;
+use mesh::Tested;
+use turns::turns_back;
+use turns::turns_wrong;
+
+// Whether the hop stays on the mesh.
+fn stays(columns: u32, rows: u32, r: Row, c: Column, h: Heading) -> bool
+    requires { ⌜ (r .0 < 64) × (c .0 < 64) ⌝ }
+    ensures { λ x. ⌜ x ≡ stays columns rows h (r .0) (c .0) ⌝ }
+{
+    let row = r.0;
+    let column = c.0;
+    match h {
+        Heading::East => return column + 1 < columns,
+        Heading::North => return row + 1 < rows,
+        Heading::South => return 1 <= row,
+        Heading::West => return 1 <= column,
+    }
+}
+
+// What is wrong with a hop, tested in the order of the numbers.
+pub fn test_hop(columns: u32, rows: u32, marks: &[u8], p: Packet, h: Heading) -> Tested
+    requires { ⌜ Sized columns rows (now marks) × (p .place .row .0 < 64) × (p .place .column .0 < 64) ⌝ }
+    ensures { λ x. ⌜ testedNumber x ≡ letterFault (tripOf (mesh columns rows (now (marks .entry))) p) (at p) (Hop h) ⌝ }
+{
+    let place = p.place;
+    let r = place.row;
+    let c = place.column;
+    let l = p.last;
+    if !stays(columns, rows, r, c, h) {
+        return Tested::Wrong(Fault::LeavesMesh);
+    }
+    if turns_back(l, h) {
+        return Tested::Wrong(Fault::Reverses);
+    }
+    if turns_wrong(l, h, c) {
+        return Tested::Wrong(Fault::ForbiddenTurn);
+    }
+    if is_bad_ahead(columns, rows, marks, r, c, h, 1) {
+        return Tested::Wrong(Fault::EntersBlock);
+    }
+    Tested::Lawful
+}
+
+// The place after a hop.
+fn place_after(p: Place, h: Heading) -> Place
+    requires { ⌜ Lands h (p .row .0) (p .column .0) ⌝ }
+    ensures { λ x. ⌜ x ≡ place (rowAfter h (p .row .0)) (columnAfter h (p .column .0)) ⌝ }
+{
+    let r = p.row;
+    let c = p.column;
+    let row = r.0;
+    let column = c.0;
+    match h {
+        Heading::East => return Place {
+            row: r,
+            column: Column(column + 1),
+        },
+        Heading::North => return Place {
+            row: Row(row + 1),
+            column: c,
+        },
+        Heading::South => return Place {
+            row: Row(row - 1),
+            column: c,
+        },
+        Heading::West => return Place {
+            row: r,
+            column: Column(column - 1),
+        },
+    }
+}
+
+// The packet after a hop.
+pub fn moved(p: Packet, h: Heading) -> Packet
+    requires { ⌜ Lands h (p .place .row .0) (p .place .column .0) ⌝ }
+    ensures { λ x. ⌜ x ≡ movedPacket h p ⌝ }
+{
+    let from = p.place;
+    let place = place_after(from, h);
+    let last = Last::Made(h);
+    let destination = p.destination;
+    Packet {
+        place,
+        last,
+        destination,
+    }
+}
+
+// Whether the packet is at its destination.
+pub fn is_there(p: Packet) -> bool
+    ensures { λ x. ⌜ x ≡ isThere p ⌝ }
+{
+    let place = p.place;
+    let destination = p.destination;
+    let r = place.row;
+    let c = place.column;
+    let to_r = destination.row;
+    let to_c = destination.column;
+    if r.0 != to_r.0 {
+        return false;
+    }
+    c.0 == to_c.0
+}

@@ -1,0 +1,104 @@
+-- What the loop over the letters keeps. Assumes nothing.
+use mathlib.Core.Path.{_≡_, refl, sym, ap, _∙_}
+use mathlib.Core.Logic.{inl, inr}
+use mathlib.Core.Bool.{Bool, true, false, not, cond, _&&_}
+use mathlib.Core.List.{List, [], _∷_}
+use Prim.Native.Nat.{ℕ, suc, pred, _+_, _≤_, _<_}
+use native.Mathlib.Numerals.{add-one}
+use native.Mathlib.Omega.{arith}
+use lib.ListN.{length, getD, drop, drop-of-length-le}
+use lib.Seq.{drop-cons}
+use Rattle.mesh.specs.declared.Heading.{Heading}
+use Rattle.mesh.specs.declared.Letter.{Letter}
+use Rattle.mesh.specs.declared.Letter.the-variants.{Hop, Other}
+use Rattle.mesh.specs.declared.Fault.{Fault}
+use Rattle.mesh.specs.declared.Fault.the-variants.{NoLetter, LeavesMesh, Reverses, ForbiddenTurn, EntersBlock, NotArrived}
+use Rattle.mesh.specs.declared.Tested.{Tested}
+use Rattle.mesh.specs.declared.Tested.the-variants.{Lawful, Wrong}
+use Rattle.mesh.specs.declared.Packet.{Packet}
+use Rattle.mesh.specs.Mesh.{Mesh}
+use Rattle.mesh.specs.Hops.{Trip, blocked, atDestination}
+use Rattle.mesh.specs.Turns.{turnsBack, turnsWrong}
+use Rattle.mesh.specs.Walk.{At, stays, moved, arrived}
+use Rattle.mesh.specs.Packets.{at, tripOf, isThere, movedPacket}
+use Rattle.mesh.specs.Judging.{faultNumber, testedNumber, named, letterFault, follow, Verdict, passed, failed, unless, judge}
+use Rattle.mesh.proofs.Bools.{value}
+use Rattle.hops.specs.Lands.{Lands}
+use Rattle.hops.proofs.Landing.{stays-lands, stays-on}
+
+pub fault-some : (f : Fault) → faultNumber f ≡ suc (pred (faultNumber f))
+unfolding faultNumber
+fault-some NoLetter = refl
+fault-some LeavesMesh = refl
+fault-some Reverses = refl
+fault-some ForbiddenTurn = refl
+fault-some EntersBlock = refl
+fault-some NotArrived = refl
+
+-- a letter with nothing wrong stays on the mesh
+lawful-stays : (w : Trip) (p : At) (h : Heading) → letterFault w p (Hop h) ≡ 0 → stays (w .columns) (w .rows) h (p .row) (p .column) ≡ true
+unfolding letterFault
+lawful-stays w p h e =
+    elim (value (stays (w .columns) (w .rows) h (p .row) (p .column)))
+    [ inl s ↦ s | inr s ↦ absurd (let z = rw s at e in omega arith) ]
+
+-- the letters before index i are lawful and have brought the packet to p
+pub record Judging (w : Mesh) (packet p : Packet) (xs : List ℕ) (i : ℕ) : Type 0 where
+  pub row : p .place .row .0 < w .rows
+  pub column : p .place .column .0 < w .columns
+  pub same : p .destination ≡ packet .destination
+  pub rest : judge (tripOf w packet) (at packet) 0 xs ≡ judge (tripOf w p) (at p) i (drop i xs)
+
+module _ (w : Mesh) (packet : Packet) (xs : List ℕ) where
+  pub judging-start : packet .place .row .0 < w .rows → packet .place .column .0 < w .columns → Judging w packet packet xs 0
+  judging-start r c = record { row = r; column = c; same = refl; rest = refl }
+
+  module _ {p : Packet} {i : ℕ} (s : Judging w packet p xs i) where
+    module _ (h : i < length xs) where
+      rest-letter : {l : Letter} → l ≡ named (getD xs i 0) → judge (tripOf w packet) (at packet) 0 xs ≡ unless (letterFault (tripOf w p) (at p) l) i (judge (tripOf w p) (follow l (at p)) (suc i) (drop (suc i) xs))
+      unfolding judge
+      rest-letter e = s .rest ∙ rw (drop-cons xs i 0 h, e)
+
+      pub judging-other : {l : Letter} → l ≡ named (getD xs i 0) → l ≡ Other → failed (faultNumber NoLetter) i ≡ judge (tripOf w packet) (at packet) 0 xs
+      unfolding letterFault unless faultNumber
+      judging-other e o = sym (rest-letter e ∙ rw o)
+
+      module _ {l : Letter} {hop : Heading} {t : Tested} (e : l ≡ named (getD xs i 0)) (o : l ≡ Hop hop) (n : testedNumber t ≡ letterFault (tripOf w p) (at p) (Hop hop)) where
+        pub judging-wrong : {f : Fault} → t ≡ Wrong f → failed (faultNumber f) i ≡ judge (tripOf w packet) (at packet) 0 xs
+        unfolding testedNumber unless
+        judging-wrong {f} q =
+            sym (rest-letter e ∙ rw (o, ← n, q, fault-some f))
+
+        module _ (q : t ≡ Lawful) where
+          none : letterFault (tripOf w p) (at p) (Hop hop) ≡ 0
+          unfolding testedNumber
+          none = sym n ∙ rw q
+
+          stays-here : stays (w .columns) (w .rows) hop (p .place .row .0) (p .place .column .0) ≡ true
+          stays-here = lawful-stays (tripOf w p) (at p) hop none
+
+          pub judging-lands : w .columns ≤ 64 → w .rows ≤ 64 → Lands hop (p .place .row .0) (p .place .column .0)
+          judging-lands cs rs = stays-lands (w .columns) (w .rows) _ _ (s .row) (s .column) hop cs rs stays-here
+
+          pub judging-on : Judging w packet (movedPacket hop p) xs (i + 1)
+          unfolding unless follow moved
+          judging-on =
+              let on = stays-on (w .columns) (w .rows) _ _ (s .row) (s .column) hop stays-here in
+              record {
+                row = on .0;
+                column = on .1;
+                same = s .same;
+                rest = rest-letter e ∙ rw (o, none, add-one);
+              }
+
+    module _ (h : i ≡ length xs) where
+      rest-none : judge (tripOf w packet) (at packet) 0 xs ≡ cond (isThere p) (passed i) (failed 16 i)
+      unfolding judge arrived atDestination isThere
+      rest-none = s .rest ∙ rw (drop-of-length-le xs {i = i} (omega arith))
+
+      pub judging-passed : isThere p ≡ true → passed i ≡ judge (tripOf w packet) (at packet) 0 xs
+      judging-passed t = sym (rest-none ∙ rw t)
+
+      pub judging-short : isThere p ≡ false → failed (faultNumber NotArrived) i ≡ judge (tripOf w packet) (at packet) 0 xs
+      unfolding faultNumber
+      judging-short t = sym (rest-none ∙ rw t)

@@ -1,0 +1,64 @@
+// The operation "Judge a hand-in".
+ghost use mathlib.Core.Path.{_≡_};
+ghost use mathlib.Core.Bool.{true};
+ghost use Prim.Native.Nat.{_<_};
+ghost use Rattle.mesh.specs.Mesh.{mesh};
+ghost use Rattle.mesh.specs.Packets.{at, tripOf};
+ghost use Rattle.mesh.specs.Judging.{named, judge, judgedVerdict, judgement};
+ghost use Rattle.maps.specs.Sized.{Sized};
+use hops::is_there;
+use hops::moved;
+use hops::test_hop;
+use mesh::Fault;
+use mesh::Heading;
+use mesh::Judged;
+use mesh::Letter;
+use mesh::Packet;
+use mesh::Tested;
+
+// The hop that a byte names.
+fn read_letter(x: u8) -> Letter
+    ensures { λ l. ⌜ l ≡ named x ⌝ }
+{
+    if x == 69 {
+        return Letter::Hop(Heading::East);
+    }
+    if x == 78 {
+        return Letter::Hop(Heading::North);
+    }
+    if x == 83 {
+        return Letter::Hop(Heading::South);
+    }
+    if x == 87 {
+        return Letter::Hop(Heading::West);
+    }
+    Letter::Other
+}
+
+// The letters in turn, on a marking.
+fn judge_letters(columns: u32, rows: u32, marks: &[u8], packet: Packet, letters: &[u8]) -> Judged
+    requires { ⌜ Sized columns rows (now marks) × (packet .place .row .0 < rows) × (packet .place .column .0 < columns) ⌝ }
+    ensures { λ x. ⌜ judgedVerdict x ≡ judge (tripOf (mesh columns rows (now (marks .entry))) packet) (at packet) 0 (now (letters .entry)) ⌝ }
+{
+    let n = letters.len();
+    let mut p = packet;
+    let mut i = 0;
+    while i < n {
+        let named = read_letter(letters[i]);
+        match named {
+            Letter::Other => return Judged::Failed(Fault::NoLetter, i),
+            Letter::Hop(h) => {
+                let tested = test_hop(columns, rows, marks, p, h);
+                if let Tested::Wrong(f) = tested {
+                    return Judged::Failed(f, i);
+                }
+                p = moved(p, h);
+            }
+        }
+        i += 1;
+    }
+    if is_there(p) {
+        return Judged::Passed(n);
+    }
+    Judged::Failed(Fault::NotArrived, n)
+}
