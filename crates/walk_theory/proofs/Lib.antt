@@ -5,3 +5,8 @@ pub mod Crossing
 pub mod Rules
 pub mod Turns
 pub mod Lawful
+pub mod Weights
+pub mod Modes
+pub mod Round
+pub mod InRow
+pub mod Approach

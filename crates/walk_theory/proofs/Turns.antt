@@ -61,6 +61,11 @@ module _ (w : Trip) (c : ℕ) where
   turn-in to-west up e = refl
   turn-in to-west down e = refl
 
+  pub across-in : {l : Last} {s a : Heading} → Across l s → Upright a → notOwn w s c ≡ 0 → Permits w c l a
+  across-in {a = a} first v e = first-hop a
+  across-in went-east v e = turn-in to-east v e
+  across-in went-west v e = turn-in to-west v e
+
   pub turn-east : {a : Heading} → Upright a → Permits w c (made a) E
   unfolding mayTurn reverses forbidden same letter opposite
   turn-east up = refl
