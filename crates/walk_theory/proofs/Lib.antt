@@ -10,3 +10,9 @@ pub mod Modes
 pub mod Round
 pub mod InRow
 pub mod Approach
+pub mod Walks
+pub mod Source
+pub mod Arrival
+pub mod ShutIn
+pub mod Destination
+pub mod Theorems
