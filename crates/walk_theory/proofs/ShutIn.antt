@@ -45,7 +45,7 @@ module _ (w : Trip) (r c : ℕ) where
   unfolding lawful
   way-barred e = rw (e, and-false)
 
-  edge-barred : c ≡ 0 → lawful w (fresh r c) W ≡ false
+  pub edge-barred : c ≡ 0 → lawful w (fresh r c) W ≡ false
   unfolding lawful stays
   edge-barred h = rw h
 
@@ -54,18 +54,11 @@ module _ (w : Trip) (r c : ℕ) where
   west-forbidden e = rw e
 
   -- rule 6 sends the packet west
-  west-fails : (r ≡ w .R → ⊥) → w .west c ≡ false → lawful w (fresh r c) W ≡ false → Fails w (fresh r c)
+  pub west-fails : (r ≡ w .R → ⊥) → w .west c ≡ false → lawful w (fresh r c) W ≡ false → Fails w (fresh r c)
   unfolding hopAt
   west-fails ne e f =
       let a = west-forbidden e in
       fails-by w (other-row none ne) (by-across (FailsBy w (fresh r c)) c first (off-by r ne .off) (λ x y. absurd (omega arith)) (λ x. inl f))
-
-  pub edge-fails : meetsEdge w r c ≡ true → Fails w (fresh r c)
-  unfolding meetsEdge
-  edge-fails e =
-      let f = and-both {a = eqb c 0} e in
-      let g = and-both {a = not (w .west c)} (f .1) in
-      west-fails (eqb-false r (w .R) (not-true _ (g .1))) (not-true _ (g .0)) (edge-barred (eqb-true c 0 (f .0)))
 
 module _ {w : Trip} {bs : List Block} (course : Course w bs) where
   -- rule 3 sends it north beside the block, or west in a column where NW is forbidden
@@ -100,15 +93,8 @@ module _ {w : Trip} {bs : List Block} (course : Course w bs) where
       (λ p. inr (north-fails (reach w N (g .block)) (m .crosses) (off-out (m .crosses) (here-off e up) (omega arith)) (omega arith) t (omega arith) a))
       (λ p. true-false b (p .free 1 (c - 1) (omega arith) (omega arith) v)))
 
-  shut-by : {r c : ℕ} → Dec (r ≡ w .R) → w .bad r c ≡ false → w .west c ≡ false → blocked w W 1 r c ≡ true → (not (eqb r (w .R)) ≡ true) ⊎ (ltb (w .C) c ≡ true) →
+  pub shut-by : {r c : ℕ} → Dec (r ≡ w .R) → w .bad r c ≡ false → w .west c ≡ false → blocked w W 1 r c ≡ true → (not (eqb r (w .R)) ≡ true) ⊎ (ltb (w .C) c ≡ true) →
       Fails w (fresh r c)
   shut-by {r} {c} (no ne) free odd wall o = west-fails w r c ne odd (way-barred w r c wall)
   shut-by {r} (yes e) free odd wall (inl ne) = absurd (eqb-false r (w .R) (not-true _ ne) e)
   shut-by {r} {c} (yes e) free odd wall (inr h) = row-fails free odd wall e (ltb-true (w .C) c h)
-
-  pub shut-fails : {r c : ℕ} → w .bad r c ≡ false → shutIn w r c ≡ true → Fails w (fresh r c)
-  unfolding shutIn
-  shut-fails {r} {c} free e =
-      let f = and-both {a = not (w .west c)} e in
-      let g = and-both {a = blocked w W 1 r c} (f .1) in
-      shut-by (ℕ-discrete r (w .R)) free (not-true _ (f .0)) (g .0) (or-cases _ _ (g .1))
