@@ -2,25 +2,23 @@
 use mathlib.Core.Path.{_≡_, refl}
 use mathlib.Core.Bool.{Bool, true, false}
 use mathlib.Core.List.{List}
-use Prim.Native.Nat.{ℕ, zero, suc, _+_, _-_, _*_, _≤_, _<_}
+use Prim.Native.Nat.{ℕ, zero, suc, _+_, _-_, _≤_}
 use native.Mathlib.Decide.{decLe}
 use native.Mathlib.Omega.{arith}
 use borrow.Author.Tests.{lt-ltb, le-leb}
 use Rattle.mesh.specs.declared.Heading.{Heading}
-use Rattle.mesh.specs.declared.Heading.the-variants.{East as E, West as W}
+use Rattle.mesh.specs.declared.Heading.the-variants.{West as W}
 use Rattle.mesh.specs.declared.Last.{Last}
 use Rattle.mesh.specs.declared.Last.the-variants.{Made as made}
-use Rattle.mesh.specs.Mesh.{rowAfter, columnAfter, opposite}
+use Rattle.mesh.specs.Mesh.{rowAfter, opposite}
 use Rattle.mesh.specs.Blocks.{Block}
 use Rattle.mesh.specs.Hops.{Trip, hop}
-use Rattle.mesh.proofs.Bools.{true-false}
 use Rattle.block_theory.specs.Blocks.{Within}
 use Rattle.walk_theory.specs.Course.{Course}
 use Rattle.walk_theory.proofs.Bools.{bit, le-by-contradiction}
-use Rattle.walk_theory.proofs.Sums.{sum}
-use Rattle.walk_theory.proofs.Coordinates.{upright-opposite, to-west, Off, north, south, To, east, west, notOwn, row-beside, upright, level, off-in, off-here, alternate-back}
+use Rattle.walk_theory.proofs.Coordinates.{upright-opposite, to-west, Off, north, south, To, east, west, row-beside, upright, off-in, off-here, alternate-back}
 use Rattle.walk_theory.proofs.Crossing.{free-beside, free-without}
-use Rattle.walk_theory.proofs.Rules.{Across, first, went-west, by-across, by-nearing}
+use Rattle.walk_theory.proofs.Rules.{Across, went-west, by-across, by-nearing}
 use Rattle.walk_theory.proofs.Turns.{Permits, straight, across-on, across-in, turn-east, turn-out, ready-upright}
 use Rattle.walk_theory.proofs.Lawful.{goes-west, goes-in}
 use Rattle.walk_theory.proofs.Weights.{before, rest-detour, detour-in, detour-two}

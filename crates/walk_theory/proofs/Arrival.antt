@@ -1,17 +1,15 @@
 -- Each hop keeps a mode and lowers its number, so a walk arrives. Assumes nothing.
-use mathlib.Core.Path.{_≡_, refl}
-use mathlib.Core.Bool.{Bool, true, false, cond, _&&_}
-use mathlib.Core.List.{List, [], _∷_}
+use mathlib.Core.Path.{_≡_}
+use mathlib.Core.Bool.{true, false}
+use mathlib.Core.List.{List}
 use Prim.Native.Nat.{ℕ, zero, suc, _≤_, _<_}
 use native.Mathlib.Omega.{arith}
 use borrow.Author.Tests.{eq-eqb}
-use lib.Dec.{eqb}
 use lib.ListN.{length}
-use Rattle.mesh.specs.declared.Heading.{Heading}
 use Rattle.mesh.specs.declared.Last.{Last}
 use Rattle.mesh.specs.Blocks.{Block}
 use Rattle.mesh.specs.Hops.{Trip, atDestination, hop}
-use Rattle.mesh.specs.Walk.{At, moved, lawful, arrived, lawfulRoute, hopAt, walk}
+use Rattle.mesh.specs.Walk.{At, moved, arrived, lawfulRoute, hopAt, walk}
 use Rattle.mesh.proofs.Bools.{true-false, and-intro}
 use Rattle.walk_theory.specs.Course.{Course}
 use Rattle.walk_theory.proofs.Bools.{cond-by, le-by-contradiction}

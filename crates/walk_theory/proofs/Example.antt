@@ -1,19 +1,17 @@
 -- The premises can be met: one block anywhere on a mesh with room for its ring, and a walk past it with the turns of either parity. Assumes nothing.
 use mathlib.Core.Path.{_≡_, refl, sym, subst}
-use mathlib.Core.Bool.{Bool, true, false, not, _&&_, and-false}
-use mathlib.Core.List.{List, [], _∷_, List·Memᴰ·head, List·Memᴰ·tail, List·Memᴰ·not-nil}
+use mathlib.Core.Bool.{Bool, true, false, not, and-false}
+use mathlib.Core.List.{[], _∷_, List·Memᴰ·head, List·Memᴰ·tail, List·Memᴰ·not-nil}
 use mathlib.Core.Logic.{_⊎_, inl, inr}
-use Prim.Native.Nat.{ℕ, _+_, _≤_, _<_}
+use Prim.Native.Nat.{ℕ, _+_, _<_}
 use native.Mathlib.Omega.{arith}
 use Rattle.mesh.specs.Blocks.{Block, reaches, ahead}
-use Rattle.mesh.specs.Turns.{turnsWest}
 use Rattle.mesh.specs.Hops.{Trip, blocked}
 use Rattle.mesh.specs.Walk.{fresh, walk, shutIn, distance, detours, bound}
 use Rattle.mesh.proofs.Bools.{value}
-use Rattle.mesh.proofs.Turns.{turns-change}
 use Rattle.block_theory.specs.Blocks.{Within, Fits}
 use Rattle.block_theory.specs.Obstacles.{Listed, Walled, none, more, Obstacles}
-use Rattle.walk_theory.specs.Course.{Course, meetsEdge, Served}
+use Rattle.walk_theory.specs.Course.{Course, meetsEdge}
 use Rattle.walk_theory.specs.Claims.{Arrives}
 use Rattle.walk_theory.proofs.Rings.{reaches-true, reaches-of}
 use Rattle.walk_theory.proofs.Theorems.{walk-arrives}

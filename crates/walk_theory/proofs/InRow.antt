@@ -1,14 +1,14 @@
 -- Straight travel in the destination's row, until a block stops the packet. Assumes nothing.
-use mathlib.Core.Path.{_≡_, refl}
-use mathlib.Core.Bool.{Bool, true, false}
+use mathlib.Core.Path.{_≡_}
+use mathlib.Core.Bool.{true, false}
 use mathlib.Core.List.{List}
-use Prim.Native.Nat.{ℕ, zero, suc, _+_, _-_, _*_, _≤_, _<_, max}
+use Prim.Native.Nat.{ℕ, suc, _+_, _-_, _≤_, _<_, max}
 use native.Mathlib.Decide.{decLe}
 use native.Mathlib.Omega.{arith}
 use Rattle.mesh.specs.declared.Heading.{Heading}
 use Rattle.mesh.specs.declared.Last.{Last}
 use Rattle.mesh.specs.declared.Last.the-variants.{Made as made}
-use Rattle.mesh.specs.Mesh.{rowAfter, columnAfter, opposite}
+use Rattle.mesh.specs.Mesh.{columnAfter}
 use Rattle.mesh.specs.Blocks.{Block}
 use Rattle.mesh.specs.Hops.{Trip, hop}
 use Rattle.mesh.proofs.Bools.{true-false}
@@ -16,14 +16,13 @@ use Rattle.block_theory.specs.Blocks.{Within}
 use Rattle.block_theory.specs.Obstacles.{Listed}
 use Rattle.walk_theory.specs.Course.{Course}
 use Rattle.walk_theory.proofs.Bools.{le-by-contradiction}
-use Rattle.walk_theory.proofs.Sums.{sum}
 use Rattle.walk_theory.proofs.Coordinates.{Sight, right, left, To, east, west, notOwn, notOwn-le, level, here-off, to-next, sight-one, sight-two, alternate-next}
-use Rattle.walk_theory.proofs.Crossing.{bad-within, free-without, reach, far, near, Crosses, reach-le, far-near, off-out, free-close}
+use Rattle.walk_theory.proofs.Crossing.{free-without, far, near, Crosses, reach-le, far-near, off-out, free-close}
 use Rattle.walk_theory.proofs.Rules.{Open, by-inRow}
 use Rattle.walk_theory.proofs.Turns.{Ready, upright-again, straight, ready}
 use Rattle.walk_theory.proofs.Lawful.{goes-side, goes-out}
 use Rattle.walk_theory.proofs.Weights.{rest-on, rest-cut}
-use Rattle.walk_theory.proofs.Modes.{InRow, Mode, in-row, leaving, Next}
+use Rattle.walk_theory.proofs.Modes.{InRow, in-row, leaving, Next}
 
 -- a block b with (r, j) in it, where j is in sight of c
 module _ {w : Trip} where

@@ -1,17 +1,16 @@
 -- Lawful hops by what is to go, and where they lead. Assumes nothing.
-use mathlib.Core.Path.{_≡_, refl}
-use mathlib.Core.Bool.{Bool, true, false, not, _&&_}
+use mathlib.Core.Path.{_≡_}
+use mathlib.Core.Bool.{true, false}
 use mathlib.Core.List.{List}
 use Prim.Native.Nat.{ℕ, suc, _+_, _-_, _≤_}
 use native.Mathlib.Omega.{arith}
 use borrow.Author.Tests.{lt-ltb, le-leb}
 use Rattle.mesh.specs.declared.Heading.{Heading}
-use Rattle.mesh.specs.declared.Heading.the-variants.{East as E, North as N, South as S, West as W}
+use Rattle.mesh.specs.declared.Heading.the-variants.{North as N, South as S, West as W}
 use Rattle.mesh.specs.declared.Last.{Last}
 use Rattle.mesh.specs.declared.Last.the-variants.{Made as made}
 use Rattle.mesh.specs.Mesh.{rowAfter, columnAfter, opposite}
 use Rattle.mesh.specs.Blocks.{Block, ahead}
-use Rattle.mesh.specs.Turns.{mayTurn}
 use Rattle.mesh.specs.Hops.{Trip, blocked}
 use Rattle.mesh.specs.Walk.{At, stays, lawful}
 use Rattle.walk_theory.specs.Course.{Course}

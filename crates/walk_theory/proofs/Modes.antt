@@ -7,7 +7,7 @@ use native.Mathlib.Omega.{arith}
 use Rattle.mesh.specs.declared.Heading.{Heading}
 use Rattle.mesh.specs.declared.Heading.the-variants.{West as W}
 use Rattle.mesh.specs.declared.Last.{Last}
-use Rattle.mesh.specs.declared.Last.the-variants.{None as none, Made as made}
+use Rattle.mesh.specs.declared.Last.the-variants.{Made as made}
 use Rattle.mesh.specs.Mesh.{opposite}
 use Rattle.mesh.specs.Blocks.{Block}
 use Rattle.mesh.specs.Hops.{Trip}

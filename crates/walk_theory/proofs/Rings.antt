@@ -1,25 +1,14 @@
 -- The tests for blocks and rings say what they should. Assumes nothing.
-use mathlib.Core.Path.{_≡_, refl}
-use mathlib.Core.Bool.{Bool, true, false, not, _&&_, _||_, and-false}
-use mathlib.Core.Logic.{_⊎_, inl, inr}
-use mathlib.Core.List.{List, [], _∷_, List·Memᴰ·head, List·Memᴰ·tail}
-use Prim.Native.Nat.{ℕ, suc, _+_, _≤_, _<_, _%_}
-use native.Mathlib.Decide.{ℕ-discrete}
-use native.Mathlib.Omega.{arith}
-use borrow.Author.Tests.{lt-ltb, le-leb, leb-true, ltb-true, ne-eqb, not-false}
-use lib.Dec.{eqb, leb, ltb}
-use Rattle.mesh.specs.declared.Place.{Place}
-use Rattle.mesh.specs.Mesh.{Mesh, onMesh}
-use Rattle.mesh.specs.Blocks.{Block, bad, blocks, reaches, onRing, onSomeRing}
-use Rattle.mesh.specs.Turns.{turnsWest}
-use Rattle.mesh.specs.Hops.{Trip}
-use Rattle.mesh.specs.Walk.{tripOn}
-use Rattle.mesh.specs.Refusals.{offMesh, inBlock, onARing, unserved}
-use Rattle.mesh.proofs.Bools.{true-false, value, and-both, and-right, or-none}
-use Rattle.mesh.proofs.Turns.{turns-change}
+use mathlib.Core.Path.{_≡_}
+use mathlib.Core.Bool.{true, false, _&&_}
+use mathlib.Core.List.{List, _∷_, List·Memᴰ·head, List·Memᴰ·tail}
+use Prim.Native.Nat.{ℕ, _+_}
+use borrow.Author.Tests.{lt-ltb, le-leb, leb-true, ltb-true, not-false}
+use lib.Dec.{leb, ltb}
+use Rattle.mesh.specs.Blocks.{Block, reaches, onRing, onSomeRing}
+use Rattle.mesh.proofs.Bools.{and-both, and-right, or-none}
 use Rattle.block_theory.specs.Blocks.{Reaches, Within}
-use Rattle.block_theory.specs.Obstacles.{Listed, Obstacles}
-use Rattle.walk_theory.specs.Course.{Course, FreePlace, meetsEdge, Served}
+use Rattle.block_theory.specs.Obstacles.{Listed}
 
 module _ (b : Block) (r c : ℕ) where
   pub reaches-true : (i j : ℕ) → Reaches i j b r c → reaches i j b r c ≡ true

@@ -2,11 +2,11 @@
 use mathlib.Core.Path.{_≡_, refl}
 use mathlib.Core.Bool.{Bool, true, false}
 use mathlib.Core.List.{List}
-use Prim.Native.Nat.{ℕ, zero, suc, _+_, _-_, _*_, _≤_, _<_}
+use Prim.Native.Nat.{ℕ, zero, suc, _+_, _-_, _≤_}
 use native.Mathlib.Omega.{arith}
 use Rattle.mesh.specs.declared.Heading.{Heading}
 use Rattle.mesh.specs.declared.Last.the-variants.{Made as made}
-use Rattle.mesh.specs.Mesh.{rowAfter, columnAfter, opposite}
+use Rattle.mesh.specs.Mesh.{rowAfter, opposite}
 use Rattle.mesh.specs.Blocks.{Block}
 use Rattle.mesh.specs.Hops.{Trip, hop}
 use Rattle.mesh.proofs.Bools.{true-false}

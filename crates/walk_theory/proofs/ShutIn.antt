@@ -1,26 +1,23 @@
 -- From a source that is shut in, or stuck at the west edge, some hop by the rules is unlawful. Assumes nothing.
-use mathlib.Core.Path.{_≡_, refl}
-use mathlib.Core.Bool.{Bool, true, false, not, _&&_, _||_, and-false}
+use mathlib.Core.Path.{_≡_}
+use mathlib.Core.Bool.{true, false, not, and-false}
 use mathlib.Core.Logic.{_⊎_, inl, inr}
 use mathlib.Core.List.{List}
 use Prim.Native.Nat.{ℕ, zero, suc, _+_, _-_, _≤_, _<_}
-use native.Mathlib.Decide.{ℕ-discrete}
 use native.Mathlib.Omega.{arith}
-use borrow.Author.Tests.{ne-eqb, eqb-true, eqb-false, ltb-true, not-true}
+use borrow.Author.Tests.{ne-eqb, eqb-false, ltb-true, not-true}
 use lib.Dec.{eqb, leb, ltb}
-use Rattle.mesh.specs.declared.Heading.{Heading}
 use Rattle.mesh.specs.declared.Heading.the-variants.{North as N, West as W}
 use Rattle.mesh.specs.declared.Last.{Last}
 use Rattle.mesh.specs.declared.Last.the-variants.{None as none, Made as made}
 use Rattle.mesh.specs.Mesh.{rowAfter, columnAfter}
 use Rattle.mesh.specs.Blocks.{Block, ahead}
-use Rattle.mesh.specs.Turns.{mayTurn}
 use Rattle.mesh.specs.Hops.{Trip, blocked, own, again, atDestination}
-use Rattle.mesh.specs.Walk.{At, fresh, moved, stays, lawful, arrived, hopAt, shutIn}
-use Rattle.mesh.proofs.Bools.{true-false, and-both, or-cases}
-use Rattle.walk_theory.specs.Course.{Course, meetsEdge}
+use Rattle.mesh.specs.Walk.{fresh, moved, stays, lawful, arrived, hopAt}
+use Rattle.mesh.proofs.Bools.{true-false, and-both}
+use Rattle.walk_theory.specs.Course.{Course}
 use Rattle.walk_theory.specs.Claims.{Fails}
-use Rattle.walk_theory.proofs.Coordinates.{up, to-west, Sight, left, Off, To, west, notOwn, off-by, here-off, off-other, to-other, sight-to}
+use Rattle.walk_theory.proofs.Coordinates.{up, to-west, Sight, left, Off, To, west, notOwn, off-by, here-off, to-other, sight-to}
 use Rattle.walk_theory.proofs.Crossing.{reach, near, Crosses, far-near, off-out, inside-if-bad}
 use Rattle.walk_theory.proofs.Rules.{first, by-inRow, by-leaving, by-across}
 use Rattle.walk_theory.proofs.Turns.{no-turn-west}

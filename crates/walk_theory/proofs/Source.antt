@@ -1,6 +1,6 @@
 -- A served source is in a mode, with a number within the bound. Assumes nothing.
 use mathlib.Core.Path.{_≡_, refl}
-use mathlib.Core.Bool.{Bool, true, false, not, _&&_, _||_, and-true, or-true}
+use mathlib.Core.Bool.{Bool, true, false, not, _||_, and-true, or-true}
 use mathlib.Core.List.{List}
 use Prim.Native.Nat.{ℕ, suc, _+_, _-_, _≤_, _<_}
 use native.Mathlib.Decide.{decLt, ℕ-discrete}
@@ -8,19 +8,18 @@ use native.Mathlib.Omega.{arith}
 use borrow.Author.Tests.{eq-eqb, ne-eqb, lt-ltb, le-ltb, le-leb}
 use lib.Dec.{eqb, ltb, leb}
 use Rattle.mesh.specs.declared.Heading.{Heading}
-use Rattle.mesh.specs.declared.Heading.the-variants.{East as E, North as N, South as S, West as W}
-use Rattle.mesh.specs.declared.Last.the-variants.{None as none, Made as made}
+use Rattle.mesh.specs.declared.Heading.the-variants.{East as E, North as N, West as W}
+use Rattle.mesh.specs.declared.Last.the-variants.{None as none}
 use Rattle.mesh.specs.Blocks.{Block, ahead}
 use Rattle.mesh.specs.Hops.{Trip, blocked, own, again}
-use Rattle.mesh.specs.Walk.{shutIn, distance, detours, bound}
+use Rattle.mesh.specs.Walk.{shutIn, distance, bound}
 use Rattle.mesh.proofs.Bools.{true-false, and-right}
 use Rattle.walk_theory.specs.Course.{meetsEdge, Served}
 use Rattle.walk_theory.proofs.Bools.{le-by-contradiction}
-use Rattle.walk_theory.proofs.Sums.{sum}
 use Rattle.walk_theory.proofs.Coordinates.{up, to-west, Sight, left, Off, To, east, west, notOwn, gaps, off-by}
 use Rattle.walk_theory.proofs.Rules.{first}
 use Rattle.walk_theory.proofs.Turns.{Ready, first-hop, turn-east, ready}
-use Rattle.walk_theory.proofs.Weights.{rest, detour, rest-detour, detour-all}
+use Rattle.walk_theory.proofs.Weights.{rest-detour, detour-all}
 use Rattle.walk_theory.proofs.Modes.{Mode, approaching, shifting, in-row}
 
 module _ {w : Trip} {r c : ℕ} (src : Served w r c) where

@@ -1,9 +1,8 @@
 -- Permitted turns, of a side and an upright heading. Assumes nothing.
 use mathlib.Core.Path.{_≡_, refl}
-use mathlib.Core.Bool.{Bool, true, false, not, _&&_, _||_}
+use mathlib.Core.Bool.{true, false}
 use Prim.Native.Nat.{ℕ}
 use borrow.Author.Tests.{not-true}
-use lib.Dec.{eqb}
 use Rattle.mesh.specs.declared.Heading.{Heading}
 use Rattle.mesh.specs.declared.Heading.the-variants.{East as E, North as N, South as S, West as W}
 use Rattle.mesh.specs.declared.Last.{Last}

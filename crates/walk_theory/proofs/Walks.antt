@@ -1,23 +1,22 @@
 -- Walks by the hop rules on any trip: when two agree, when one fails, and the places on the way of one that arrives. Assumes nothing.
 use mathlib.Core.Path.{_≡_, refl}
-use mathlib.Core.Bool.{Bool, true, false, not, cond, _&&_}
+use mathlib.Core.Bool.{Bool, true, false, not, cond}
 use mathlib.Core.List.{List, [], _∷_}
 use mathlib.Core.Logic.{_⊎_, inl, inr}
 use Prim.Native.Nat.{ℕ, zero, suc, _+_, _≤_, _<_}
 use native.Mathlib.Omega.{arith}
 use borrow.Author.Tests.{ltb-true, not-true}
 use lib.Dec.{leb}
-use lib.ListN.{length, getD}
+use lib.ListN.{length}
 use Rattle.mesh.specs.declared.Heading.{Heading}
 use Rattle.mesh.specs.declared.Heading.the-variants.{East as E, North as N, South as S, West as W}
 use Rattle.mesh.specs.Mesh.{rowAfter, columnAfter}
 use Rattle.mesh.specs.Blocks.{ahead}
-use Rattle.mesh.specs.Turns.{mayTurn}
 use Rattle.mesh.specs.Hops.{Trip, blocked}
 use Rattle.mesh.specs.Walk.{At, moved, stays, lawful, arrived, lawfulRoute, hopAt, walk}
 use Rattle.mesh.proofs.Bools.{true-false, value, and-both, and-right}
 use Rattle.walk_theory.specs.Course.{FreePlace}
-use Rattle.walk_theory.specs.Claims.{Fails, now, later, reached, Hops, OnTheWay}
+use Rattle.walk_theory.specs.Claims.{Fails, now, later, reached, OnTheWay}
 use Rattle.walk_theory.proofs.Bools.{cond-by}
 
 agree-by : (b : Bool) (h : Heading) {xs ys : List Heading} (n m : ℕ) → (length xs < n → length ys < m → xs ≡ ys) →

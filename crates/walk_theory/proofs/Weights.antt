@@ -7,7 +7,7 @@ use native.Mathlib.Omega.{arith}
 use borrow.Author.Tests.{lt-ltb, le-leb, lt-leb, le-ltb, ltb-true, leb-true}
 use lib.Dec.{leb, ltb}
 use Rattle.mesh.specs.declared.Heading.{Heading}
-use Rattle.mesh.specs.declared.Heading.the-variants.{East as E, North as N, South as S, West as W}
+use Rattle.mesh.specs.declared.Heading.the-variants.{North as N, South as S}
 use Rattle.mesh.specs.Mesh.{rowAfter, opposite}
 use Rattle.mesh.specs.Blocks.{Block}
 use Rattle.mesh.specs.Hops.{Trip}
