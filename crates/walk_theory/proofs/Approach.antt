@@ -36,7 +36,8 @@ before-by {r = r} {b = b} (south e) i out = lt-ltb r (b .row) (le-by-contradicti
 
 module _ {w : Trip} {bs : List Block} (course : Course w bs) where
   -- into the destination's row
-  land-toward : {a s : Heading} {g x r c n : ℕ} → To w c x s → x ≤ g → Permits w c (made (opposite a)) s → Approaching w bs a 0 g r c n → Mode w bs n r c (made (opposite a))
+  land-toward : {a s : Heading} {g x r c n : ℕ} → To w c x s → x ≤ g → Permits w c (made (opposite a)) s →
+      Approaching w bs a 0 g r c n → Mode w bs n r c (made (opposite a))
   land-toward {a} {s} {r = r} {c = c} t h turned m =
       let less = rest-detour w s a r c c bs in
       in-row (record {
@@ -56,8 +57,8 @@ module _ {w : Trip} {bs : List Block} (course : Course w bs) where
   land zero m = land-row (decLe _ _) m
   land (suc k) m = approaching-on m
 
-  go-on : {a : Heading} {l : Last} {k g r c n : ℕ} → Approaching w bs a (suc k) g r c (suc n) → Permits w c l (opposite a) → w .bad (rowAfter (opposite a) r) c ≡ false →
-      Next w bs n r c l (opposite a)
+  go-on : {a : Heading} {l : Last} {k g r c n : ℕ} → Approaching w bs a (suc k) g r c (suc n) → Permits w c l (opposite a) →
+      w .bad (rowAfter (opposite a) r) c ≡ false → Next w bs n r c l (opposite a)
   go-on {k = k} {c = c} m t e =
       let less = detour-in c bs (m .off) in
       goes-in course (m .off) e t
@@ -103,4 +104,11 @@ module _ {w : Trip} {bs : List Block} (course : Course w bs) where
       let z = alternate-back course to-west c (m .one) in
       by-across (Next w bs n r c l) c x (m .off) (λ e f. absurd (omega arith))
       (λ h. goes-west (m .one) (m .free) (across-on w c x)
-      (approaching {g = g} went-west (record { off = m .off; free = m .free; turn = omega arith; gap-east = omega arith; gap-west = omega arith; falls = omega arith })))
+      (approaching {g = g} went-west (record {
+        off = m .off;
+        free = m .free;
+        turn = omega arith;
+        gap-east = omega arith;
+        gap-west = omega arith;
+        falls = omega arith;
+      })))

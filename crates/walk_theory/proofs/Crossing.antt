@@ -122,7 +122,8 @@ module _ {w : Trip} {bs : List Block} where
   reaches-of q (south e) (west f) i = omega arith
 
 -- all that travel round a block uses of the marking
-module _ {w : Trip} {bs : List Block} (course : Course w bs) {s a : Heading} {b : Block} {r k j y : ℕ} (q : Crosses w bs s b) (o : Off w r k a) (t : To w j y s) where
+module _ {w : Trip} {bs : List Block} (course : Course w bs) {s a : Heading} {b : Block} {r k j y : ℕ}
+    (q : Crosses w bs s b) (o : Off w r k a) (t : To w j y s) where
   pub bad-inside : Inside w b a k s y → w .bad r j ≡ true
   bad-inside i = bad-within course (q .listed) (within-of q o t i)
 

@@ -66,6 +66,6 @@ module _ (west : ℕ → Bool) (changes : (c : ℕ) → west (c + 1) ≡ not (we
   unfolding past square bound distance detours shutIn meetsEdge reaches blocked ahead
   example =
       walk-arrives course 1 5
-      (record { place = record { row = omega arith; column = omega arith; free = refl }; open-west = and-false (not (west 5)); off-edge = refl })
+      (record { place = record { row = omega arith; column = omega arith; free = refl }; not-shut = and-false (not (west 5)); off-edge = refl })
       1000
       (omega arith)

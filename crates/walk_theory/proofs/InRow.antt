@@ -80,7 +80,8 @@ module _ {w : Trip} {bs : List Block} (course : Course w bs) where
       }
 
   -- stopped in an own column, or by the next node
-  ready-now : {s : Heading} {l : Last} {x r c n i j : ℕ} → Dec (notOwn w s c ≤ 0) → InRow w bs s x r c n l → 1 ≤ i → i + notOwn w s c ≤ 2 → Sight c i j s → w .bad r j ≡ true → Ready w c l s
+  ready-now : {s : Heading} {l : Last} {x r c n i j : ℕ} → Dec (notOwn w s c ≤ 0) → InRow w bs s x r c n l →
+      1 ≤ i → i + notOwn w s c ≤ 2 → Sight c i j s → w .bad r j ≡ true → Ready w c l s
   ready-now {l = l} {c = c} (yes h) m o t v e = ready w c l (level (m .to)) (omega arith) (m .turn)
   ready-now {i = i} {j = j} (no h) m o t v e = let one : i ≡ 1 = omega arith in m .stop j (rw one at v) e
 

@@ -14,7 +14,12 @@ module _ (b : Block) (r c : ℕ) where
   pub reaches-true : (i j : ℕ) → Reaches i j b r c → reaches i j b r c ≡ true
   unfolding reaches
   reaches-true i j h =
-      rw (le-leb (b .row) (r + i) (h .south), lt-ltb r (b .height + b .row + i) (h .north), le-leb (b .column) (c + j) (h .west), lt-ltb c (b .width + b .column + j) (h .east))
+      rw (
+        le-leb (b .row) (r + i) (h .south),
+        lt-ltb r (b .height + b .row + i) (h .north),
+        le-leb (b .column) (c + j) (h .west),
+        lt-ltb c (b .width + b .column + j) (h .east),
+      )
 
   pub reaches-of : (i j : ℕ) → reaches i j b r c ≡ true → Reaches i j b r c
   unfolding reaches

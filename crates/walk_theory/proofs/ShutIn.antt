@@ -1,4 +1,4 @@
--- From a source that is shut in, or stuck at the west edge, some hop by the rules is unlawful. Assumes nothing.
+-- From a source that is shut in, or meets the west edge, some hop by the rules is unlawful. Assumes nothing.
 use mathlib.Core.Path.{_≡_}
 use mathlib.Core.Bool.{true, false, not, and-false}
 use mathlib.Core.Logic.{_⊎_, inl, inr}
@@ -78,9 +78,9 @@ module _ {w : Trip} {bs : List Block} (course : Course w bs) where
   -- rule 2 sends it north
   row-fails : {r c : ℕ} → w .bad r c ≡ false → w .west c ≡ false → blocked w W 1 r c ≡ true → r ≡ w .R → w .C < c → Fails w (fresh r c)
   unfolding hopAt moved rowAfter columnAfter again blocked ahead
-  row-fails {r} {c} free odd wall e h =
+  row-fails {r} {c} free barred wall e h =
       let t : To w c (c - w .C) W = west (omega arith) in
-      let a = west-forbidden w r c odd in
+      let a = west-forbidden w r c barred in
       let b = and-both {a = leb 1 c} wall .1 in
       let g = course .obstacles .in-block r (c - 1) b in
       let v : Sight c 1 (c - 1) W = left (omega arith) in
@@ -90,8 +90,8 @@ module _ {w : Trip} {bs : List Block} (course : Course w bs) where
       (λ p. inr (north-fails (reach w N (g .block)) (m .crosses) (off-out (m .crosses) (here-off e up) (omega arith)) (omega arith) t (omega arith) a))
       (λ p. true-false b (p .free 1 (c - 1) (omega arith) (omega arith) v)))
 
-  pub shut-by : {r c : ℕ} → Dec (r ≡ w .R) → w .bad r c ≡ false → w .west c ≡ false → blocked w W 1 r c ≡ true → (not (eqb r (w .R)) ≡ true) ⊎ (ltb (w .C) c ≡ true) →
-      Fails w (fresh r c)
-  shut-by {r} {c} (no ne) free odd wall o = west-fails w r c ne odd (way-barred w r c wall)
-  shut-by {r} (yes e) free odd wall (inl ne) = absurd (eqb-false r (w .R) (not-true _ ne) e)
-  shut-by {r} {c} (yes e) free odd wall (inr h) = row-fails free odd wall e (ltb-true (w .C) c h)
+  pub shut-by : {r c : ℕ} → Dec (r ≡ w .R) → w .bad r c ≡ false → w .west c ≡ false → blocked w W 1 r c ≡ true →
+      (not (eqb r (w .R)) ≡ true) ⊎ (ltb (w .C) c ≡ true) → Fails w (fresh r c)
+  shut-by {r} {c} (no ne) free barred wall o = west-fails w r c ne barred (way-barred w r c wall)
+  shut-by {r} (yes e) free barred wall (inl ne) = absurd (eqb-false r (w .R) (not-true _ ne) e)
+  shut-by {r} {c} (yes e) free barred wall (inr h) = row-fails free barred wall e (ltb-true (w .C) c h)

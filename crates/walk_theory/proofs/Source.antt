@@ -32,20 +32,22 @@ module _ {w : Trip} {r c : ℕ} (src : Served w r c) where
       let same-row : not (eqb r (w .R)) ≡ false = rw (eq-eqb c 0 (omega arith), e) at (src .off-edge) in
       let none-west = rw (same-row, le-ltb (w .C) c (omega arith)) at f in
       true-false {b = false} none-west refl) in
-      (one, and-right (leb 1 c) (w .bad r (c - 1)) (le-leb 1 c one) (rw (e, f, and-true) at (src .open-west)))
+      (one, and-right (leb 1 c) (w .bad r (c - 1)) (le-leb 1 c one) (rw (e, f, and-true) at (src .not-shut)))
 
-  start-off : {bs : List Block} {a : Heading} {k n : ℕ} (β : Bool) → w .west c ≡ β → (r ≡ w .R → ⊥) → Off w r (suc k) a → suc k ≤ distance r (w .R) → bound w bs r c < n →
-      Mode w bs n r c none
+  start-off : {bs : List Block} {a : Heading} {k n : ℕ} (β : Bool) → w .west c ≡ β → (r ≡ w .R → ⊥) → Off w r (suc k) a →
+      suc k ≤ distance r (w .R) → bound w bs r c < n → Mode w bs n r c none
   unfolding bound notOwn own
   start-off {bs} {a} true e ne o h b =
       let gap = gaps c (w .C) in
       let all = detour-all w a r c bs in
-      approaching {g = distance c (w .C)} first (record { off = o; free = src .place .free; turn = rw e; gap-east = omega arith; gap-west = omega arith; falls = omega arith })
+      approaching {g = distance c (w .C)} first
+      (record { off = o; free = src .place .free; turn = rw e; gap-east = omega arith; gap-west = omega arith; falls = omega arith })
   start-off {bs} {a} false e ne o h b =
       let gap = gaps c (w .C) in
       let all = detour-all w a r (c - 1) bs in
       let p = west-free e (rw (ne-eqb r (w .R) ne)) in
-      shifting {g = distance c (w .C) + 1} first (record { off = o; free = p .1; turn = rw e; one = p .0; gap-east = omega arith; gap-west = omega arith; falls = omega arith })
+      shifting {g = distance c (w .C) + 1} first
+      (record { off = o; free = p .1; turn = rw e; one = p .0; gap-east = omega arith; gap-west = omega arith; falls = omega arith })
 
   start-row : {bs : List Block} {s : Heading} {x n : ℕ} → To w c x s → x ≤ distance c (w .C) → ((j : ℕ) → Sight c 1 j s → w .bad r j ≡ true → Ready w c none s) →
       r ≡ w .R → bound w bs r c < n → Mode w bs n r c none

@@ -62,11 +62,11 @@ module _ {w : Trip} {bs : List Block} (course : Course w bs) (r c : ℕ) where
       known : Fails w (fresh r c) → (shutIn w r c ≡ true) ⊎ (shutIn w r c ≡ false) → shutIn w r c ≡ true
       known f (inl e) = e
       known f (inr e) =
-          let src : Served w r c = record { place = place; open-west = e; off-edge = off-edge } in
+          let src : Served w r c = record { place = place; not-shut = e; off-edge = off-edge } in
           absurd (fails-unlawful w (suc (bound w bs r c)) f (walk-arrives src _ (omega arith) .route))
 
 module _ (w : Trip) (r c : ℕ) where
-  -- a source that meets the west edge is lost too
+  -- from a source that meets the west edge some hop by the rules is unlawful too
   pub meets-edge-fails : meetsEdge w r c ≡ true → Fails w (fresh r c)
   unfolding meetsEdge
   meets-edge-fails e =
@@ -74,7 +74,7 @@ module _ (w : Trip) (r c : ℕ) where
       let g = and-both {a = not (w .west c)} (f .1) in
       west-fails w r c (eqb-false r (w .R) (not-true _ (g .1))) (not-true _ (g .0)) (edge-barred w r c (eqb-true c 0 (f .0)))
 
-  -- none does where column 0 permits NW and SW, as in document 01
+  -- none meets it where column 0 permits NW and SW
   pub meets-no-edge : w .west 0 ≡ true → meetsEdge w r c ≡ false
   unfolding meetsEdge
   meets-no-edge e = known (ℕ-discrete c 0)
@@ -83,9 +83,9 @@ module _ (w : Trip) (r c : ℕ) where
       known (yes z) = rw (z, e)
       known (no nz) = rw (ne-eqb c 0 nz)
 
--- a destination in no block and on no ring has no bad node in its row within two columns: refusal 8 leaves a course
-pub off-rings-served : {columns rows : ℕ} {B : ℕ → ℕ → Bool} {bs : List Block} → Obstacles columns rows B bs → (R C : ℕ) → B R C ≡ false → onSomeRing bs R C ≡ false →
-    (c : ℕ) → C ≤ c + 2 → c ≤ C + 2 → B R c ≡ false
+-- a destination in no block and on no ring has no bad node in its row within two columns
+pub off-rings-served : {columns rows : ℕ} {B : ℕ → ℕ → Bool} {bs : List Block} → Obstacles columns rows B bs → (R C : ℕ) →
+    B R C ≡ false → onSomeRing bs R C ≡ false → (c : ℕ) → C ≤ c + 2 → c ≤ C + 2 → B R c ≡ false
 off-rings-served {B = B} {bs = bs} o R C free off c h k = known (value (B R c))
   where
     known : (B R c ≡ true) ⊎ (B R c ≡ false) → B R c ≡ false
@@ -95,8 +95,9 @@ off-rings-served {B = B} {bs = bs} o R C free off c h k = known (value (B R c))
         let i = off-ring-within (g .block) R C (off-each-ring bs R C off (g .listed)) (let within = g .within in omega arith) in
         true-false (o .walled (g .block) (g .listed) .inside R C i) free
 
--- the turns of document 01, on a marked mesh
+-- with the turns of document 01, on a marked mesh
 module _ (w : Mesh) where
+  -- no source meets the west edge
   pub turns-west-no-edge : (R C r c : ℕ) → meetsEdge (tripOn w R C) r c ≡ false
   turns-west-no-edge R C r c = meets-no-edge (tripOn w R C) r c (unfold turnsWest in refl)
 
@@ -104,15 +105,16 @@ module _ (w : Mesh) where
   unfolding onMesh
   on-mesh r c e = let f = and-both {a = ltb r (w .rows)} e in (ltb-true _ _ (f .0), ltb-true _ _ (f .1))
 
-  pub turns-west-course : (R C : ℕ) {bs : List Block} → Obstacles (w .columns) (w .rows) (bad w) bs → onMesh w R C ≡ true → bad w R C ≡ false → onSomeRing bs R C ≡ false →
-      Course (tripOn w R C) bs
+  -- a destination on the mesh, in no block and on no ring gives a course
+  pub turns-west-course : (R C : ℕ) {bs : List Block} → Obstacles (w .columns) (w .rows) (bad w) bs →
+      onMesh w R C ≡ true → bad w R C ≡ false → onSomeRing bs R C ≡ false → Course (tripOn w R C) bs
   turns-west-course R C o on free off =
       let (p, q) = on-mesh R C on in
       record { obstacles = o; changes = turns-change; row = p; column = q; clear = off-rings-served o R C free off }
 
   -- a destination that refusals 6, 7 and 8 let pass
-  pub destination-course : (d : Place) → Obstacles (w .columns) (w .rows) (bad w) (blocks w) → offMesh w d ≡ false → inBlock w d ≡ false → onARing w d ≡ false →
-      Course (tripOn w (d .row .0) (d .column .0)) (blocks w)
+  pub destination-course : (d : Place) → Obstacles (w .columns) (w .rows) (bad w) (blocks w) →
+      offMesh w d ≡ false → inBlock w d ≡ false → onARing w d ≡ false → Course (tripOn w (d .row .0) (d .column .0)) (blocks w)
   unfolding offMesh inBlock onARing
   destination-course d o on free off = turns-west-course (d .row .0) (d .column .0) o (not-false _ on) free off
 
@@ -120,6 +122,6 @@ module _ (w : Mesh) where
   pub source-served : (s d : Place) → offMesh w s ≡ false → inBlock w s ≡ false → unserved w s d ≡ false →
       Served (tripOn w (d .row .0) (d .column .0)) (s .row .0) (s .column .0)
   unfolding offMesh inBlock unserved
-  source-served s d on free not-shut =
+  source-served s d on free served =
       let (p, q) = on-mesh (s .row .0) (s .column .0) (not-false _ on) in
-      record { place = record { row = p; column = q; free = free }; open-west = not-shut; off-edge = turns-west-no-edge _ _ _ _ }
+      record { place = record { row = p; column = q; free = free }; not-shut = served; off-edge = turns-west-no-edge _ _ _ _ }

@@ -29,8 +29,8 @@ pub record FreePlace (w : Trip) (r c : ℕ) : Type 0 where
 unfoldable pub meetsEdge : Trip → ℕ → ℕ → Bool
 meetsEdge w r c = eqb c 0 && (not (w .west c) && not (eqb r (w .R)))
 
--- a source that the hop rules serve: a free place, not shut in, and not stuck at the west edge
+-- a source that the hop rules serve: a free place, not shut in, and not meeting the west edge
 pub record Served (w : Trip) (r c : ℕ) : Type 0 where
   pub place : FreePlace w r c
-  pub open-west : shutIn w r c ≡ false
+  pub not-shut : shutIn w r c ≡ false
   pub off-edge : meetsEdge w r c ≡ false
