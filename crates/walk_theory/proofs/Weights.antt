@@ -31,7 +31,7 @@ if-at-most false m n h = omega arith
 unfoldable pub coming : Heading → ℕ → Block → Bool
 coming s c b = pick s (ltb c (b .column)) (leb (b .width + b .column) c)
 
--- b lies wholly between row r and the destination's row, to the a of which r lies, or beyond that
+-- b lies wholly on the destination's side of row r, which is to the a of the destination's row
 unfoldable pub before : Heading → ℕ → Block → Bool
 before a r b = pick a (leb (b .height + b .row) r) (ltb r (b .row))
 
@@ -55,6 +55,11 @@ passing-le : (c c′ : ℕ) → c′ ≤ c → (b : Block) → passing c′ b �
 unfolding passing
 passing-le c c′ h b = omega arith
 
+detour-le : (w : Trip) (a : Heading) (r r′ c c′ : ℕ) (b : Block) → (before a r′ b ≡ true → before a r b ≡ true) → c′ ≤ c → detour w a r′ c′ b ≤ detour w a r c b
+unfolding detour
+detour-le w a r r′ c c′ b f h =
+    let i = if-le (before a r′ b) (before a r b) (passing c′ b) (passing c b) (λ p. (f p, passing-le c c′ h b)) in omega arith
+
 module _ {w : Trip} where
   coming-le : {s : Heading} {c c′ x x′ : ℕ} → To w c x s → To w c′ x′ s → x′ ≤ x → (b : Block) → coming s c′ b ≡ true → coming s c b ≡ true
   unfolding coming
@@ -73,10 +78,10 @@ module _ {w : Trip} where
   before-in {r = r} (north e) b t = let p = leb-true (b .height + b .row) (r - 1) t in le-leb (b .height + b .row) r (omega arith)
   before-in {r = r} (south e) b t = let p = ltb-true (r + 1) (b .row) t in lt-ltb r (b .row) (omega arith)
 
-  pub detour-in : {a : Heading} {r k : ℕ} (c : ℕ) (bs : List Block) → Off w r (suc k) a → sum (detour w a (rowAfter (opposite a) r) c) bs ≤ sum (detour w a r c) bs
-  unfolding detour
+  pub detour-in : {a : Heading} {r k : ℕ} (c : ℕ) (bs : List Block) → Off w r (suc k) a →
+      sum (detour w a (rowAfter (opposite a) r) c) bs ≤ sum (detour w a r c) bs
   detour-in {a} {r} c bs o =
-      sum-le _ _ (λ b. let h = if-le (before a (rowAfter (opposite a) r) b) (before a r b) (passing c b) (passing c b) (λ p. (before-in o b p, omega arith)) in omega arith) bs
+      sum-le _ _ (λ b. detour-le w a r (rowAfter (opposite a) r) c c b (before-in o b) (omega arith)) bs
 
 module _ (w : Trip) where
   pub rest-detour : (s a : Heading) (r c c′ : ℕ) (bs : List Block) → sum (rest w s c′) bs ≤ sum (detour w a r c) bs
@@ -87,10 +92,8 @@ module _ (w : Trip) where
   pub detour-two : (a : Heading) (r c : ℕ) {b : Block} (bs : List Block) → Listed b bs → before a r b ≡ true → b .column ≤ c → c < b .width + b .column → 2 ≤ c →
       sum (detour w a r (c - 2)) bs + 4 ≤ sum (detour w a r c) bs
   unfolding detour
-  detour-two a r c {b} bs m t h k two = sum-less _ _ 4 no-greater b (rw t (unfold passing in omega arith)) bs m
-    where
-      no-greater : (b : Block) → detour w a r (c - 2) b ≤ detour w a r c b
-      no-greater b = let i = if-le (before a r b) (before a r b) (passing (c - 2) b) (passing c b) (λ p. (p, passing-le c (c - 2) (omega arith) b)) in omega arith
+  detour-two a r c {b} bs m t h k two =
+      sum-less _ _ 4 (λ b. detour-le w a r r c (c - 2) b (λ p. p) (omega arith)) b (rw t (unfold passing in omega arith)) bs m
 
   -- the bound of demand 3 has room for all detours
   pub detour-all : (a : Heading) (r c : ℕ) (bs : List Block) → sum (detour w a r c) bs ≤ detours bs
