@@ -18,7 +18,7 @@ use Rattle.walk_theory.proofs.Coordinates.{pick, Upright, up, down, Lev
 
 -- any listed block: its nodes are bad, those of its ring are not
 module _ {w : Trip} {bs : List Block} (k : Course w bs) {b : Block} (m : Listed b bs) {r c : ℕ} where
-  pub bad-within : Within b r c → w .bad r c ≡ true
+  bad-within : Within b r c → w .bad r c ≡ true
   bad-within i = k .obstacles .walled b m .inside r c i
 
   pub free-beside : Reaches 1 2 b r c → (Within b r c → ⊥) → w .bad r c ≡ false
@@ -27,7 +27,7 @@ module _ {w : Trip} {bs : List Block} (k : Course w bs) {b : Block} (m : Listed 
   pub free-without : w .bad r c ≡ false → Within b r c → ⊥
   free-without e i = true-false (bad-within i) e
 
-  pub within-if-bad : Reaches 1 2 b r c → w .bad r c ≡ true → Within b r c
+  within-if-bad : Reaches 1 2 b r c → w .bad r c ≡ true → Within b r c
   within-if-bad n t =
       let not-out : (Within b r c → ⊥) → ⊥ = λ out. true-false t (free-beside n out) in
       record {
