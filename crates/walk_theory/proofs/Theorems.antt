@@ -17,6 +17,7 @@ use Rattle.mesh.specs.Turns.{turnsWest}
 use Rattle.mesh.specs.Hops.{Trip, blocked}
 use Rattle.mesh.specs.Walk.{tripOn, fresh, walk, shutIn, bound}
 use Rattle.mesh.specs.Refusals.{offMesh, inBlock, onARing, unserved}
+use Rattle.mesh.specs.Operations.{hopsOf}
 use Rattle.mesh.proofs.Bools.{true-false, value, and-both, or-cases}
 use Rattle.mesh.proofs.Turns.{turns-change}
 use Rattle.block_theory.specs.Obstacles.{Obstacles}
@@ -125,3 +126,11 @@ module _ (w : Mesh) where
   source-served s d on free served =
       let (p, q) = on-mesh (s .row .0) (s .column .0) (not-false _ on) in
       record { place = record { row = p; column = q; free = free }; not-shut = served; off-edge = turns-west-no-edge _ _ _ _ }
+
+  -- the hops of a request that refusals 6 to 9 let pass are a lawful route within the bound
+  pub request-arrives : (s d : Place) → Obstacles (w .columns) (w .rows) (bad w) (blocks w) → offMesh w s ≡ false → offMesh w d ≡ false →
+      inBlock w s ≡ false → inBlock w d ≡ false → onARing w d ≡ false → unserved w s d ≡ false →
+      Arrives (tripOn w (d .row .0) (d .column .0)) (blocks w) (s .row .0) (s .column .0) (hopsOf w s d)
+  unfolding hopsOf
+  request-arrives s d o on-s on-d free-s free-d off served =
+      walk-arrives (destination-course d o on-d free-d off) _ _ (source-served s d on-s free-s served) _ (omega arith)
