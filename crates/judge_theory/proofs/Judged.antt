@@ -103,7 +103,7 @@ module _ (w : Trip) where
             record {
               hops = [];
               begun = omega arith;
-              spelled = sym (take-nil (j - i));
+              spelled = sym (take-nil _);
               hops-lawful = refl;
               wrong = at-end (omega arith) a (sym number);
             }

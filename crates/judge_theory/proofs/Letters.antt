@@ -61,14 +61,17 @@ named-hop x h e =
 fault : Bool → Bool → Bool → Bool → ℕ
 fault s v t b = cond (not s) 12 (cond v 13 (cond t 14 (cond b 15 0)))
 
+neither : (k : ℕ) → suc k ≡ 0 ↔ false ≡ true
+neither k = (λ e. absurd (omega arith), λ e. true-false e refl)
+
 fault-none : (s v t b : Bool) → fault s v t b ≡ 0 ↔ s && (not b && (not v && not t)) ≡ true
 unfolding fault
-fault-none false v t b = (λ e. absurd (omega arith), λ e. true-false e refl)
-fault-none true true t true = (λ e. absurd (omega arith), λ e. true-false e refl)
-fault-none true true t false = (λ e. absurd (omega arith), λ e. true-false e refl)
-fault-none true false true true = (λ e. absurd (omega arith), λ e. true-false e refl)
-fault-none true false true false = (λ e. absurd (omega arith), λ e. true-false e refl)
-fault-none true false false true = (λ e. absurd (omega arith), λ e. true-false e refl)
+fault-none false v t b = neither 11
+fault-none true true t true = neither 12
+fault-none true true t false = neither 12
+fault-none true false true true = neither 13
+fault-none true false true false = neither 13
+fault-none true false false true = neither 14
 fault-none true false false false = (λ e. refl, λ e. refl)
 
 module _ (w : Trip) (p : At) where

@@ -14,16 +14,16 @@ use Rattle.mesh.specs.Walk.{tripOn, At, fresh, moved, lawful, arrived, lawfulRo
 use Rattle.mesh.specs.Refusals.{mapRefusals, placeRefusals}
 use Rattle.mesh.specs.Judging.{named, letterFault}
 
+-- each of the hops is lawful in turn; unlike a lawful route, they may end anywhere
+unfoldable pub lawfulHops : Trip → At → List Heading → Bool
+lawfulHops w p [] = true
+lawfulHops w p (h ∷ hs) = lawful w p h && lawfulHops w (moved h p) hs
+
 -- the bytes are the letters of a lawful route from p
 pub record LawfulHandIn (w : Trip) (p : At) (xs : List ℕ) : Type 0 where
   pub hops : List Heading
   pub spelled : letters hops ≡ xs
   pub route : lawfulRoute w p hops ≡ true
-
--- each of the hops is lawful in turn; unlike a lawful route, they may end anywhere
-unfoldable pub lawfulHops : Trip → At → List Heading → Bool
-lawfulHops w p [] = true
-lawfulHops w p (h ∷ hs) = lawful w p h && lawfulHops w (moved h p) hs
 
 -- the packet after the hops
 unfoldable pub after : List Heading → At → At
