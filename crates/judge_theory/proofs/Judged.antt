@@ -20,13 +20,13 @@ use Rattle.judge_theory.specs.Claims.{LawfulHandIn, lawfulHops, after, N
 use Rattle.judge_theory.proofs.Letters.{letter-named, faultless-lawful, good, faulty, examine}
 
 -- Verdicts are told apart.
-pub passed-failed {ℓ} : {A : Type ℓ} {n k j : ℕ} → passed n ≡ failed k j → A
+passed-failed {ℓ} : {A : Type ℓ} {n k j : ℕ} → passed n ≡ failed k j → A
 passed-failed e = let z : _≡_ {A = ℕ} 0 1 = cc in absurd (omega arith)
 
-pub passed-number : {n m : ℕ} → passed n ≡ passed m → n ≡ m
+passed-number : {n m : ℕ} → passed n ≡ passed m → n ≡ m
 passed-number e = cc
 
-pub failed-number : {k j k′ j′ : ℕ} → failed k j ≡ failed k′ j′ → (k ≡ k′) × (j ≡ j′)
+failed-number : {k j k′ j′ : ℕ} → failed k j ≡ failed k′ j′ → (k ≡ k′) × (j ≡ j′)
 failed-number e = (cc, cc)
 
 pub letters-length : (hs : List Heading) → length (letters hs) ≡ length hs
@@ -60,7 +60,7 @@ module _ (w : Trip) where
       let (l, m) = and-both e in
       judge-good p i h (letters hs) l ∙ route-passed (moved h p) (suc i) hs m ∙ rw (add-suc, suc-add)
 
-  pub passed-route : (p : At) (i n : ℕ) (xs : List ℕ) → judge w p i xs ≡ passed n → LawfulHandIn w p xs
+  passed-route : (p : At) (i n : ℕ) (xs : List ℕ) → judge w p i xs ≡ passed n → LawfulHandIn w p xs
   unfolding lawfulRoute letters
   passed-route p i n [] e =
       elim (value (arrived w p)) [
@@ -103,7 +103,7 @@ module _ (w : Trip) where
             record {
               hops = [];
               begun = omega arith;
-              spelled = sym (take-nil _);
+              spelled = rw take-nil;
               hops-lawful = refl;
               wrong = at-end (omega arith) a (sym number);
             }
