@@ -1,0 +1,1 @@
+// The theory of judging: theorems about the definitions of `mesh`, and no code.
