@@ -27,7 +27,7 @@ pub record Goes (w : Trip) (M : ℕ → ℕ → Last → Type 0) (r c : ℕ) (l 
   pub then : M (rowAfter h r) (columnAfter h c) (made h)
 
 module _ {w : Trip} {M : ℕ → ℕ → Last → Type 0} {l : Last} {r c : ℕ} where
-  goes-by : {h : Heading} → stays w h r c ≡ true → blocked w h 1 r c ≡ false → Permits w c l h → M (rowAfter h r) (columnAfter h c) (made h) → Goes w M r c l h
+  goes-by : {h : Heading} → stays (w .columns) (w .rows) h r c ≡ true → blocked w h 1 r c ≡ false → Permits w c l h → M (rowAfter h r) (columnAfter h c) (made h) → Goes w M r c l h
   unfolding lawful
   goes-by s b f m = record { lawfully = rw (s, b, f); then = m }
 

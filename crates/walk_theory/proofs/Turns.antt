@@ -8,7 +8,7 @@ use Rattle.mesh.specs.declared.Heading.the-variants.{East as E, North as N, Sou
 use Rattle.mesh.specs.declared.Last.{Last}
 use Rattle.mesh.specs.declared.Last.the-variants.{None as none, Made as made}
 use Rattle.mesh.specs.Mesh.{opposite, letter, same}
-use Rattle.mesh.specs.Turns.{forbidden, reverses, mayTurn}
+use Rattle.mesh.specs.Turns.{forbidden, reverses, turnsBack, turnsWrong, mayTurn}
 use Rattle.mesh.specs.Hops.{Trip, own, again}
 use Rattle.mesh.proofs.Bools.{true-false}
 use Rattle.walk_theory.proofs.Bools.{bit-zero, bit-one}
@@ -38,11 +38,11 @@ module _ (w : Trip) (c : ℕ) where
   own-at s e = bit-zero (own w s c) e
 
   pub first-hop : (h : Heading) → Permits w c none h
-  unfolding mayTurn
+  unfolding mayTurn turnsBack turnsWrong
   first-hop h = refl
 
   pub straight : (h : Heading) → Permits w c (made h) h
-  unfolding mayTurn reverses forbidden same letter opposite
+  unfolding mayTurn turnsBack turnsWrong reverses forbidden same letter opposite
   straight E = refl
   straight N = refl
   straight S = refl
@@ -54,7 +54,7 @@ module _ (w : Trip) (c : ℕ) where
   across-on went-west = straight W
 
   pub turn-in : {s a : Heading} → Level s → Upright a → notOwn w s c ≡ 0 → Permits w c (made s) a
-  unfolding mayTurn reverses forbidden same letter opposite own
+  unfolding mayTurn turnsBack turnsWrong reverses forbidden same letter opposite own
   turn-in to-east up e = rw (not-true (w .west c) (own-at E e))
   turn-in to-east down e = rw (not-true (w .west c) (own-at E e))
   turn-in to-west up e = refl
@@ -66,12 +66,12 @@ module _ (w : Trip) (c : ℕ) where
   across-in went-west v e = turn-in to-west v e
 
   pub turn-east : {a : Heading} → Upright a → Permits w c (made a) E
-  unfolding mayTurn reverses forbidden same letter opposite
+  unfolding mayTurn turnsBack turnsWrong reverses forbidden same letter opposite
   turn-east up = refl
   turn-east down = refl
 
   pub turn-out : {s a : Heading} → Upright a → Level s → notOwn w s c ≡ 0 → Permits w c (made a) s
-  unfolding mayTurn reverses forbidden same letter opposite own
+  unfolding mayTurn turnsBack turnsWrong reverses forbidden same letter opposite own
   turn-out v to-east e = turn-east v
   turn-out up to-west e = rw (own-at W e)
   turn-out down to-west e = rw (own-at W e)
@@ -83,7 +83,7 @@ module _ (w : Trip) (c : ℕ) where
   ready-upright down t = record { away = straight S; back = t }
 
   pub ready : {s : Heading} (l : Last) → Level s → notOwn w s c ≡ 0 → Permits w c l s → Ready w c l s
-  unfolding again mayTurn reverses forbidden same letter opposite
+  unfolding again mayTurn turnsBack turnsWrong reverses forbidden same letter opposite
   ready none v e t = record { away = refl; back = turn-out up v e }
   ready (made E) to-east e t = record { away = turn-in to-east up e; back = turn-east up }
   ready (made E) to-west e t = true-false t refl
@@ -93,5 +93,5 @@ module _ (w : Trip) (c : ℕ) where
 
   -- NW in a column where it is not
   pub no-turn-west : notOwn w W c ≡ 1 → mayTurn (w .west) c (made N) W ≡ false
-  unfolding mayTurn reverses forbidden same letter opposite notOwn own
+  unfolding mayTurn turnsBack turnsWrong reverses forbidden same letter opposite notOwn own
   no-turn-west e = rw (bit-one (w .west c) e)

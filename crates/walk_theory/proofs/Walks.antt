@@ -52,7 +52,7 @@ module _ (w : Trip) where
   fails-unlawful (suc m) {p} (now e f) l = true-false (and-both {a = lawful w p (hopAt w p)} (rw e at l) .0) f
   fails-unlawful (suc m) {p} (later e t k) l = fails-unlawful m k (and-both {a = lawful w p (hopAt w p)} (rw e at l) .1)
 
-  stays-free : (p : At) (h : Heading) → stays w h (p .row) (p .column) ≡ true → blocked w h 1 (p .row) (p .column) ≡ false →
+  stays-free : (p : At) (h : Heading) → stays (w .columns) (w .rows) h (p .row) (p .column) ≡ true → blocked w h 1 (p .row) (p .column) ≡ false →
       FreePlace w (p .row) (p .column) → FreePlace w (rowAfter h (p .row)) (columnAfter h (p .column))
   unfolding stays blocked ahead rowAfter columnAfter
   stays-free p E s b o = record { row = o .row; column = ltb-true (p .column + 1) (w .columns) s; free = b }
@@ -64,7 +64,7 @@ module _ (w : Trip) where
   lawful-free : (p : At) (h : Heading) → lawful w p h ≡ true → FreePlace w (p .row) (p .column) → FreePlace w (moved h p .row) (moved h p .column)
   unfolding lawful moved
   lawful-free p h e o =
-      let f = and-both {a = stays w h (p .row) (p .column)} e in
+      let f = and-both {a = stays (w .columns) (w .rows) h (p .row) (p .column)} e in
       let g = and-both {a = not (blocked w h 1 (p .row) (p .column))} (f .1) in
       stays-free p h (f .0) (not-true _ (g .0)) o
 
