@@ -1,6 +1,7 @@
 -- What it says that neither refusal 6 nor 7 applies, and how they stand before an operation's others. Assumes nothing.
 use mathlib.Core.Path.{_≡_, refl, sym, _∙_}
-use mathlib.Core.Bool.{Bool, true, false, not, cond, _||_}
+use mathlib.Core.Bool.{Bool, true, false, cond, _||_}
+use mathlib.Core.List.{List}
 use Prim.Native.Nat.{ℕ, suc, _<_}
 use native.Mathlib.Omega.{arith}
 use borrow.Author.Tests.{ltb-true, not-false}
@@ -9,11 +10,12 @@ use Rattle.mesh.specs.declared.Refusal.{Refusal}
 use Rattle.mesh.specs.declared.Checked.{Checked}
 use Rattle.mesh.specs.declared.Checked.the-variants.{Clear, Refused}
 use Rattle.mesh.specs.declared.Place.{Place}
-use Rattle.mesh.specs.Mesh.{Mesh, onMesh}
+use Rattle.mesh.specs.Mesh.{Mesh, mesh, onMesh}
 use Rattle.mesh.specs.Blocks.{bad}
 use Rattle.mesh.specs.Refusals.{number, checkedNumber, offMesh, inBlock, placeRefusals}
 use Rattle.mesh.proofs.Bools.{and-both, or-none}
 use Rattle.mesh.proofs.Refusals.{number-some}
+use Rattle.maps.specs.Sized.{Sized}
 
 -- a source and a destination that refusals 6 and 7 let pass
 pub record Placed (w : Mesh) (s d : Place) : Type 0 where
@@ -35,6 +37,16 @@ module _ (w : Mesh) (r c : ℕ) (on : onMesh w r c ≡ true) where
 pub on-by : (w : Mesh) (p : Place) → offMesh w p ≡ false → onMesh w (p .row .0) (p .column .0) ≡ true
 unfolding offMesh
 on-by w p e = not-false _ e
+
+-- the numbers of a place of the mesh are small
+pub on-small : (columns rows : ℕ) (marks : List ℕ) (p : Place) → Sized columns rows marks → offMesh (mesh columns rows marks) p ≡ false → (p .row .0 < 64) × (p .column .0 < 64)
+on-small columns rows marks p s e =
+    let on = on-by (mesh columns rows marks) p e in
+    let r = on-row (mesh columns rows marks) _ _ on in
+    let c = on-column (mesh columns rows marks) _ _ on in
+    let f = s .few-columns in
+    let g = s .few-rows in
+    (omega arith, omega arith)
 
 -- the two tests in a row
 first : Bool → Bool → ℕ → ℕ

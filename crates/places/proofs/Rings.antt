@@ -1,30 +1,17 @@
 -- A look at the places round one, row by row. Assumes nothing.
-use mathlib.Core.Path.{_≡_, sym, _∙_}
-use mathlib.Core.Bool.{Bool, true, false, _||_, or-true, and-false}
+use mathlib.Core.Path.{_≡_, sym}
+use mathlib.Core.Bool.{Bool, true, false, _||_, and-false}
 use mathlib.Core.List.{List}
 use Prim.Native.Nat.{ℕ, _+_, _-_, _≤_, _<_}
-use native.Mathlib.Omega.{arith}
 use borrow.Author.Tests.{lt-leb, le-leb}
-use Rattle.mesh.specs.declared.Heading.the-variants.{East as E, North as N, South as S, West as W}
+use Rattle.mesh.specs.declared.Heading.the-variants.{East as E, West as W}
 use Rattle.mesh.specs.declared.Place.{Place}
-use Rattle.mesh.specs.Mesh.{Mesh, mesh}
+use Rattle.mesh.specs.Mesh.{mesh}
 use Rattle.mesh.specs.Blocks.{bad, ahead, upright, blocks}
-use Rattle.mesh.specs.Refusals.{offMesh, inBlock, onARing}
+use Rattle.mesh.specs.Refusals.{inBlock, onARing}
 use Rattle.block_theory.specs.Obstacles.{Obstacles}
 use Rattle.block_theory.proofs.Near.{rowNear, someNear, ring-someNear}
-use Rattle.maps.specs.Sized.{Sized}
 use Rattle.maps.proofs.Lookup.{bad-north}
-use Rattle.places.proofs.Placed.{on-by, on-row, on-column}
-
--- the numbers of a place of the mesh are small
-pub on-small : (columns rows : ℕ) (map : List ℕ) (p : Place) → Sized columns rows map → offMesh (mesh columns rows map) p ≡ false → (p .row .0 < 64) × (p .column .0 < 64)
-on-small columns rows map p s e =
-    let on = on-by (mesh columns rows map) p e in
-    let r = on-row (mesh columns rows map) _ _ on in
-    let c = on-column (mesh columns rows map) _ _ on in
-    let f = s .few-columns in
-    let g = s .few-rows in
-    (omega arith, omega arith)
 
 -- a row beyond the mesh
 pub row-beyond : (columns rows : ℕ) (map : List ℕ) (r c : ℕ) → rows ≤ r → false ≡ rowNear (bad (mesh columns rows map)) r c
@@ -32,6 +19,14 @@ unfolding rowNear ahead
 row-beyond columns rows map r c h =
     let sound : (y : ℕ) → bad (mesh columns rows map) r y ≡ false = λ y. sym (bad-north columns rows map r y h) in
     simp (sound, and-false)
+
+-- one of the two sides, then the other
+module _ (B : ℕ → ℕ → Bool) (k r c : ℕ) {x : Bool} (is-x : x ≡ ahead B E k r c) where
+  pub beside-east : x ≡ true → true ≡ ahead B E k r c || ahead B W k r c
+  beside-east t = rw (← is-x, t)
+
+  pub beside-west : {y : Bool} → x ≡ false → y ≡ ahead B W k r c → y ≡ ahead B E k r c || ahead B W k r c
+  beside-west f is-y = rw (← is-x, f) is-y
 
 -- a row of the mesh; x, y and z are the answers of the tests, in the order of the code
 module _ (B : ℕ → ℕ → Bool) (r c : ℕ) {x : Bool} (is-x : x ≡ B r c) where
@@ -48,6 +43,7 @@ module _ (B : ℕ → ℕ → Bool) (r c : ℕ) {x : Bool} (is-x : x ≡ B r c) 
     unfolding rowNear
     row-second f is-z = rw (← is-x, no-x, ← is-y, f) is-z
 
+-- refusal 8; x, y and z are the answers for the place's own row, the one north of it and the one south of it
 module _ (columns rows : ℕ) (map : List ℕ) (p : Place) (O : Obstacles columns rows (bad (mesh columns rows map)) (blocks (mesh columns rows map))) (free : inBlock (mesh columns rows map) p ≡ false) where
   ring-rows : someNear (bad (mesh columns rows map)) (p .row .0) (p .column .0) ≡ onARing (mesh columns rows map) p
   unfolding inBlock onARing
