@@ -24,7 +24,7 @@ pub record Placed (w : Mesh) (s d : Place) : Type 0 where
   pub source-free : bad w (s .row .0) (s .column .0) ≡ false
   pub destination-free : bad w (d .row .0) (d .column .0) ≡ false
 
--- a place of the mesh, by its numbers
+-- the orders of a place of the mesh
 module _ (w : Mesh) (r c : ℕ) (on : onMesh w r c ≡ true) where
   pub on-row : r < w .rows
   unfolding onMesh
@@ -34,19 +34,25 @@ module _ (w : Mesh) (r c : ℕ) (on : onMesh w r c ≡ true) where
   unfolding onMesh
   on-column = ltb-true c (w .columns) (and-both {a = ltb r (w .rows)} on .1)
 
-pub on-by : (w : Mesh) (p : Place) → offMesh w p ≡ false → onMesh w (p .row .0) (p .column .0) ≡ true
-unfolding offMesh
-on-by w p e = not-false _ e
+pub on-small : (columns rows : ℕ) (marks : List ℕ) (r c : ℕ) → Sized columns rows marks → onMesh (mesh columns rows marks) r c ≡ true → (r < 64) × (c < 64)
+on-small columns rows marks r c s on =
+    let p = on-row (mesh columns rows marks) r c on in
+    let q = on-column (mesh columns rows marks) r c on in
+    (omega (arith, s .few-rows), omega (arith, s .few-columns))
 
--- the numbers of a place of the mesh are small
-pub on-small : (columns rows : ℕ) (marks : List ℕ) (p : Place) → Sized columns rows marks → offMesh (mesh columns rows marks) p ≡ false → (p .row .0 < 64) × (p .column .0 < 64)
-on-small columns rows marks p s e =
-    let on = on-by (mesh columns rows marks) p e in
-    let r = on-row (mesh columns rows marks) _ _ on in
-    let c = on-column (mesh columns rows marks) _ _ on in
-    let f = s .few-columns in
-    let g = s .few-rows in
-    (omega arith, omega arith)
+-- refusals 6 and 7 of one place, not applying
+module _ (w : Mesh) (p : Place) where
+  pub not-off : offMesh w p ≡ false → onMesh w (p .row .0) (p .column .0) ≡ true
+  unfolding offMesh
+  not-off e = not-false _ e
+
+  pub on-not-off : onMesh w (p .row .0) (p .column .0) ≡ true → offMesh w p ≡ false
+  unfolding offMesh
+  on-not-off e = rw e
+
+  pub free-not-in : bad w (p .row .0) (p .column .0) ≡ false → inBlock w p ≡ false
+  unfolding inBlock
+  free-not-in e = e
 
 -- the two tests in a row
 first : Bool → Bool → ℕ → ℕ
@@ -83,7 +89,7 @@ module _ (w : Mesh) (s d : Place) where
       let (a, b) = none-of h in
       let (p, q) = or-none (offMesh w s) (offMesh w d) a in
       let (x, y) = or-none (inBlock w s) (inBlock w d) b in
-      record { source-on = on-by w s p; destination-on = on-by w d q; source-free = x; destination-free = y }
+      record { source-on = not-off w s p; destination-on = not-off w d q; source-free = x; destination-free = y }
 
   pub places-none : {x : Checked} → x ≡ Clear → checkedNumber x ≡ placeRefusals w s d 0 → placeRefusals w s d 0 ≡ 0
   unfolding checkedNumber

@@ -14,10 +14,10 @@ use Rattle.block_theory.proofs.Near.{rowNear, someNear, ring-someNear}
 use Rattle.maps.proofs.Lookup.{bad-north}
 
 -- a row beyond the mesh
-pub row-beyond : (columns rows : ℕ) (map : List ℕ) (r c : ℕ) → rows ≤ r → false ≡ rowNear (bad (mesh columns rows map)) r c
+pub row-beyond : (columns rows : ℕ) (marks : List ℕ) (r c : ℕ) → rows ≤ r → false ≡ rowNear (bad (mesh columns rows marks)) r c
 unfolding rowNear ahead
-row-beyond columns rows map r c h =
-    let sound : (y : ℕ) → bad (mesh columns rows map) r y ≡ false = λ y. sym (bad-north columns rows map r y h) in
+row-beyond columns rows marks r c h =
+    let sound : (y : ℕ) → bad (mesh columns rows marks) r y ≡ false = λ y. sym (bad-north columns rows marks r y h) in
     simp (sound, and-false)
 
 -- one of the two sides, then the other
@@ -44,25 +44,25 @@ module _ (B : ℕ → ℕ → Bool) (r c : ℕ) {x : Bool} (is-x : x ≡ B r c) 
     row-second f is-z = rw (← is-x, no-x, ← is-y, f) is-z
 
 -- refusal 8; x, y and z are the answers for the place's own row, the one north of it and the one south of it
-module _ (columns rows : ℕ) (map : List ℕ) (p : Place) (O : Obstacles columns rows (bad (mesh columns rows map)) (blocks (mesh columns rows map))) (free : inBlock (mesh columns rows map) p ≡ false) where
-  ring-rows : someNear (bad (mesh columns rows map)) (p .row .0) (p .column .0) ≡ onARing (mesh columns rows map) p
+module _ (columns rows : ℕ) (marks : List ℕ) (p : Place) (O : Obstacles columns rows (bad (mesh columns rows marks)) (blocks (mesh columns rows marks))) (free : inBlock (mesh columns rows marks) p ≡ false) where
+  ring-rows : someNear (bad (mesh columns rows marks)) (p .row .0) (p .column .0) ≡ onARing (mesh columns rows marks) p
   unfolding inBlock onARing
   ring-rows = sym (ring-someNear O (p .row .0) (p .column .0) free)
 
-  module _ {x : Bool} (is-x : x ≡ rowNear (bad (mesh columns rows map)) (p .row .0) (p .column .0)) where
-    pub ring-here : x ≡ true → true ≡ onARing (mesh columns rows map) p
+  module _ {x : Bool} (is-x : x ≡ rowNear (bad (mesh columns rows marks)) (p .row .0) (p .column .0)) where
+    pub ring-here : x ≡ true → true ≡ onARing (mesh columns rows marks) p
     unfolding someNear
     ring-here t = rw (← ring-rows, ← is-x, t)
 
-    module _ (no-x : x ≡ false) {y : Bool} (is-y : y ≡ rowNear (bad (mesh columns rows map)) (p .row .0 + 1) (p .column .0)) where
-      pub ring-north : y ≡ true → true ≡ onARing (mesh columns rows map) p
+    module _ (no-x : x ≡ false) {y : Bool} (is-y : y ≡ rowNear (bad (mesh columns rows marks)) (p .row .0 + 1) (p .column .0)) where
+      pub ring-north : y ≡ true → true ≡ onARing (mesh columns rows marks) p
       unfolding someNear upright ahead
       ring-north t = rw (← ring-rows, ← is-x, no-x, ← is-y, t)
 
-      pub ring-none : y ≡ false → p .row .0 < 1 → false ≡ onARing (mesh columns rows map) p
+      pub ring-none : y ≡ false → p .row .0 < 1 → false ≡ onARing (mesh columns rows marks) p
       unfolding someNear upright ahead
       ring-none f o = rw (← ring-rows, ← is-x, no-x, ← is-y, f, lt-leb 1 _ o)
 
-      pub ring-south : {z : Bool} → y ≡ false → 1 ≤ p .row .0 → z ≡ rowNear (bad (mesh columns rows map)) (p .row .0 - 1) (p .column .0) → z ≡ onARing (mesh columns rows map) p
+      pub ring-south : {z : Bool} → y ≡ false → 1 ≤ p .row .0 → z ≡ rowNear (bad (mesh columns rows marks)) (p .row .0 - 1) (p .column .0) → z ≡ onARing (mesh columns rows marks) p
       unfolding someNear upright ahead
       ring-south f o is-z = rw (← ring-rows, ← is-x, no-x, ← is-y, f, le-leb 1 _ o) is-z

@@ -1,4 +1,4 @@
--- Bad, there. Assumes nothing.
+-- The nodes of blocks are the bad ones. Assumes nothing.
 use borrow.Author.Needs.{needs}
 use Rattle.mesh.specs.Refusals.{inBlock}
 use Rattle.places.proofs.is_in_block.Statement.{statement}
