@@ -1,8 +1,8 @@
 -- What the loop over the letters keeps. Assumes nothing.
-use mathlib.Core.Path.{_≡_, refl, sym, ap, _∙_}
+use mathlib.Core.Path.{_≡_, refl, sym, _∙_}
 use mathlib.Core.Logic.{inl, inr}
-use mathlib.Core.Bool.{Bool, true, false, not, cond, _&&_}
-use mathlib.Core.List.{List, [], _∷_}
+use mathlib.Core.Bool.{true, false, cond}
+use mathlib.Core.List.{List}
 use Prim.Native.Nat.{ℕ, suc, pred, _+_, _≤_, _<_}
 use native.Mathlib.Numerals.{add-one}
 use native.Mathlib.Omega.{arith}
@@ -17,11 +17,10 @@ use Rattle.mesh.specs.declared.Tested.{Tested}
 use Rattle.mesh.specs.declared.Tested.the-variants.{Lawful, Wrong}
 use Rattle.mesh.specs.declared.Packet.{Packet}
 use Rattle.mesh.specs.Mesh.{Mesh}
-use Rattle.mesh.specs.Hops.{Trip, blocked, atDestination}
-use Rattle.mesh.specs.Turns.{turnsBack, turnsWrong}
+use Rattle.mesh.specs.Hops.{Trip, atDestination}
 use Rattle.mesh.specs.Walk.{At, stays, moved, arrived}
 use Rattle.mesh.specs.Packets.{at, tripOf, isThere, movedPacket}
-use Rattle.mesh.specs.Judging.{faultNumber, testedNumber, named, letterFault, follow, Verdict, passed, failed, unless, judge}
+use Rattle.mesh.specs.Judging.{faultNumber, testedNumber, named, letterFault, follow, passed, failed, unless, judge}
 use Rattle.mesh.proofs.Bools.{value}
 use Rattle.hops.specs.Lands.{Lands}
 use Rattle.hops.proofs.Landing.{stays-lands, stays-on}

@@ -1,20 +1,25 @@
 // The operation "Judge a hand-in".
 ghost use mathlib.Core.Path.{_≡_};
-ghost use mathlib.Core.Bool.{true};
 ghost use Prim.Native.Nat.{_<_};
 ghost use Rattle.mesh.specs.Mesh.{mesh};
 ghost use Rattle.mesh.specs.Packets.{at, tripOf};
 ghost use Rattle.mesh.specs.Judging.{named, judge, judgedVerdict, judgement};
 ghost use Rattle.maps.specs.Sized.{Sized};
+ghost use Rattle.judge.specs.Marked.{judgementOn};
 use hops::is_there;
 use hops::moved;
 use hops::test_hop;
+use marking::mark_map;
+use mesh::Checked;
 use mesh::Fault;
 use mesh::Heading;
 use mesh::Judged;
+use mesh::Last;
 use mesh::Letter;
 use mesh::Packet;
+use mesh::Place;
 use mesh::Tested;
+use places::check_places;
 
 // The hop that a byte names.
 fn read_letter(x: u8) -> Letter
@@ -61,4 +66,33 @@ fn judge_letters(columns: u32, rows: u32, marks: &[u8], packet: Packet, letters:
         return Judged::Passed(n);
     }
     Judged::Failed(Fault::NotArrived, n)
+}
+
+// On a marking: refusals 6 and 7, then the letters.
+fn judge_marked(columns: u32, rows: u32, marks: &[u8], s: Place, d: Place, letters: &[u8]) -> Judged
+    requires { ⌜ Sized columns rows (now marks) ⌝ }
+    ensures { λ x. ⌜ judgedVerdict x ≡ judgementOn (mesh columns rows (now (marks .entry))) s d (now (letters .entry)) ⌝ }
+{
+    let checked = check_places(columns, rows, marks, s, d);
+    if let Checked::Refused(why) = checked {
+        return Judged::Refused(why);
+    }
+    let fresh = Packet {
+        place: s,
+        last: Last::None,
+        destination: d,
+    };
+    judge_letters(columns, rows, marks, fresh, letters)
+}
+
+// Judge a hand-in: passed with its length, or what is wrong first and where, or refused.
+pub fn judge(columns: u32, rows: u32, map: &[u8], s: Place, d: Place, letters: &[u8]) -> Judged
+    ensures { λ x. ⌜ judgedVerdict x ≡ judgement columns rows (now (map .entry)) s d (now (letters .entry)) ⌝ }
+{
+    let mut marks = [0u8; 4096];
+    let checked = mark_map(columns, rows, map, &mut marks);
+    if let Checked::Refused(why) = checked {
+        return Judged::Refused(why);
+    }
+    judge_marked(columns, rows, &marks[..map.len()], s, d, letters)
 }

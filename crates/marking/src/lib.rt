@@ -7,6 +7,7 @@ ghost use Rattle.mesh.specs.Blocks.{bad, ahead, upright, unsafe, corner, blocks
 ghost use Rattle.mesh.specs.Operations.{MarksBlocks};
 ghost use Rattle.maps.specs.Sized.{Sized};
 ghost use Rattle.marking.specs.Rounds.{nodeAfter, Advanced, Copied};
+ghost use Rattle.marking.specs.Marks.{MarksMap};
 use maps::check_map;
 use maps::is_bad;
 use maps::is_bad_ahead;
@@ -145,6 +146,20 @@ pub fn mark(columns: u32, rows: u32, map: &[u8], out: &mut [u8])
 {
     copy_over(map, out);
     settle(columns, rows, out);
+}
+
+// Refusals 1 to 5; if none applies, the marking stands in the first places of marks.
+pub fn mark_map(columns: u32, rows: u32, map: &[u8], marks: &mut [u8]) -> Checked
+    requires { ⌜ 4096 ≤ length (now marks) ⌝ }
+    ensures { λ x. ⌜ MarksMap columns rows (now (map .entry)) x (now (marks .exit)) ⌝ }
+{
+    let checked = check_map(columns, rows, map);
+    if let Checked::Refused(why) = checked {
+        return Checked::Refused(why);
+    }
+    let n = map.len();
+    mark(columns, rows, map, &mut marks[..n]);
+    Checked::Clear
 }
 
 // Whether a block has its south-west corner at index i.

@@ -31,22 +31,22 @@ slice-aggregate-mark : tie.Need-slice-aggregate-mark
 slice-aggregate-mark c = sym (length-take-le _ _ (omega arith))
 
 mark-requires : tie.Need-mark-requires
-mark-requires c κs = (clear-sized _ _ _ (c .before .before .before .before .before .before .before .args .out .now) (map-clear _ _ _ (c .before .before .enum-told .given .1) (c .before .before .before .before .check-map .ensures)), length-take-le _ _ (omega arith))
+mark-requires c κs = (clear-sized _ _ _ (map-clear _ _ _ (c .before .before .enum-told .given .1) (c .before .before .before .before .check-map .ensures)), length-take-le _ _ (omega arith))
 
 slice-reshare-prefix-count-blocks : tie.Need-slice-reshare-prefix-count-blocks
 slice-reshare-prefix-count-blocks c = search needs
 
 slice-aggregate-count-blocks : tie.Need-slice-aggregate-count-blocks
-slice-aggregate-count-blocks c = sym (ap length (front _ _ _ (c .before .before .before .before .before .before .before .before .before .before .before .args .out .now) (map-clear _ _ _ (c .before .before .before .before .before .before .enum-told .given .1) (c .before .before .before .before .before .before .before .before .check-map .ensures)) (c .before .before .before .mark .ensures) _) ∙ c .before .before .before .mark .kept .1 .1 .1 .0 ∙ length-take-le _ _ (omega arith))
+slice-aggregate-count-blocks c = sym (ap length (front _ _ _ (map-clear _ _ _ (c .before .before .before .before .before .before .enum-told .given .1) (c .before .before .before .before .before .before .before .before .check-map .ensures)) (c .before .before .before .mark .ensures) _) ∙ c .before .before .before .mark .kept .1 .1 .1 .0 ∙ length-take-le _ _ (omega arith))
 
 count-blocks-requires : tie.Need-count-blocks-requires
-count-blocks-requires c κs = front-sized _ _ _ (c .before .before .before .before .before .before .before .before .before .before .before .args .out .now) (map-clear _ _ _ (c .before .before .before .before .before .before .enum-told .given .1) (c .before .before .before .before .before .before .before .before .check-map .ensures)) (c .before .before .before .mark .ensures) _
+count-blocks-requires c κs = front-sized _ _ _ (map-clear _ _ _ (c .before .before .before .before .before .before .enum-told .given .1) (c .before .before .before .before .before .before .before .before .check-map .ensures)) (c .before .before .before .mark .ensures) _
 
 same-length : tie.Need-same-length
 same-length c = search needs
 
 returns-3 : tie.Need-returns-3
-returns-3 c = marks-done _ _ _ _ (map-clear _ _ _ (c .before .before .before .before .before .before .before .enum-told .given .1) (c .before .before .before .before .before .before .before .before .before .check-map .ensures)) (c .before .before .before .before .mark .ensures) (omega arith) (c .count-blocks .ensures)
+returns-3 c = marks-done _ _ _ _ (map-clear _ _ _ (c .before .before .before .before .before .before .before .enum-told .given .1) (c .before .before .before .before .before .before .before .before .before .check-map .ensures)) (omega arith) (c .before .before .before .before .mark .ensures) (c .count-blocks .ensures)
 
 pub mark-blocks-spec : {M : Type 1} → statement M
 mark-blocks-spec =
