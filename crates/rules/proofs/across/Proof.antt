@@ -1,35 +1,26 @@
+-- The column, then the node toward the row. Assumes nothing.
 use borrow.Author.Needs.{needs}
+use Rattle.rules.proofs.Rules.{across-other, across-blocked, across-toward}
 use Rattle.rules.proofs.across.Statement.{statement}
 use Rattle.rules.proofs.across.Tie as tie
-use Rattle.rules.proofs.across.Reads as reads
-use Rattle.rules.proofs.across.Lts as lts
-use Rattle.maps.proofs.is_bad_ahead.Reads as is-bad-ahead-reads
-use Rattle.rules.proofs.is_own.Reads as is-own-reads
-use Rattle.rules.proofs.toward.Reads as toward-reads
 
--- src/lib.rt:120:9
 is-own-requires : tie.Need-is-own-requires
 is-own-requires c κs = search needs
 
--- src/lib.rt:121:9
 returns : tie.Need-returns
-returns c = ?
+returns c = across-other _ _ _ (c .before .is-own .ensures _ _ _) (c .if1 .taken)
 
--- src/lib.rt:123:9
 toward-requires : tie.Need-toward-requires
 toward-requires c κs = search needs
 
--- src/lib.rt:124:8
 is-bad-ahead-requires : tie.Need-is-bad-ahead-requires
 is-bad-ahead-requires c κs = search needs
 
--- src/lib.rt:125:9
 returns-2 : tie.Need-returns-2
-returns-2 c = ?
+returns-2 c = across-blocked _ _ _ (c .before .before .before .before .is-own .ensures _ _ _) (c .before .before .before .if1 .left) (c .before .before .toward .ensures _ _) (c .before .is-bad-ahead .ensures) (c .if2 .taken)
 
--- src/lib.rt:112:1
 returns-3 : tie.Need-returns-3
-returns-3 c = ?
+returns-3 c = across-toward _ _ _ (c .before .before .before .before .is-own .ensures _ _ _) (c .before .before .before .if1 .left) (c .before .before .toward .ensures _ _) (c .before .is-bad-ahead .ensures) (c .if2 .left)
 
 pub across-spec : {M : Type 1} → statement M
 across-spec =

@@ -1,58 +1,47 @@
+-- By the last hop. Assumes nothing.
 use borrow.Author.Needs.{needs}
+use Rattle.mesh.specs.Mesh.{letter, same}
+use Rattle.rules.proofs.Rules.{after-east, after-west}
 use Rattle.rules.proofs.after.Statement.{statement}
 use Rattle.rules.proofs.after.Tie as tie
-use Rattle.rules.proofs.after.Reads as reads
-use Rattle.rules.proofs.after.Lts as lts
-use Rattle.rules.proofs.across.Reads as across-reads
-use Rattle.rules.proofs.along.Reads as along-reads
 
--- src/lib.rt:163:26
 enum-told : tie.Need-enum-told
 enum-told c = search needs
 
--- src/lib.rt:163:26
 across-requires : tie.Need-across-requires
 across-requires c κs = search needs
 
--- src/lib.rt:163:26
 returns : tie.Need-returns
-returns c = ?
+returns c = after-east _ _ _ (c .across .ensures) (c .before .enum-told .given .1)
 
--- src/lib.rt:164:27
 enum-told-2 : tie.Need-enum-told-2
 enum-told-2 c = search needs
 
--- src/lib.rt:164:27
 along-requires : tie.Need-along-requires
-along-requires c κs = ?
+unfolding same letter
+along-requires c κs = (c .before .before .before .pre .0, c .before .before .before .pre .1, c .before .before .before .pre .2, rw (c .enum-told2 .given .1))
 
--- src/lib.rt:164:27
 returns-2 : tie.Need-returns-2
 returns-2 c = search needs
 
--- src/lib.rt:165:27
 enum-told-3 : tie.Need-enum-told-3
 enum-told-3 c = search needs
 
--- src/lib.rt:165:27
 along-requires-2 : tie.Need-along-requires-2
-along-requires-2 c κs = ?
+unfolding same letter
+along-requires-2 c κs = (c .before .before .before .pre .0, c .before .before .before .pre .1, c .before .before .before .pre .2, rw (c .enum-told3 .given .1))
 
--- src/lib.rt:165:27
 returns-3 : tie.Need-returns-3
 returns-3 c = search needs
 
--- src/lib.rt:166:26
 enum-told-4 : tie.Need-enum-told-4
 enum-told-4 c = search needs
 
--- src/lib.rt:166:26
 across-requires-2 : tie.Need-across-requires-2
 across-requires-2 c κs = search needs
 
--- src/lib.rt:166:26
 returns-4 : tie.Need-returns-4
-returns-4 c = ?
+returns-4 c = after-west _ _ _ (c .across2 .ensures) (c .before .enum-told4 .given .1)
 
 pub after-spec : {M : Type 1} → statement M
 after-spec =

@@ -1,33 +1,28 @@
+-- By the last hop. Assumes nothing.
 use borrow.Author.Needs.{needs}
+use Rattle.mesh.specs.Hops.{again}
+use Rattle.rules.proofs.Rules.{again-south, again-north}
 use Rattle.rules.proofs.again.Statement.{statement}
 use Rattle.rules.proofs.again.Tie as tie
-use Rattle.rules.proofs.again.Reads as reads
-use Rattle.rules.proofs.again.Lts as lts
-use Rattle.turns.proofs.is_same.Reads as is-same-reads
 
--- src/lib.rt:79:23
 enum-told : tie.Need-enum-told
 enum-told c = search needs
 
--- src/lib.rt:79:23
 returns : tie.Need-returns
-returns c = ?
+unfolding again
+returns c = rw (c .enum-told .given .1)
 
--- src/lib.rt:80:20
 enum-known-l : tie.Need-enum-known-l
 enum-known-l c = search needs
 
--- src/lib.rt:81:16
 is-same-requires : tie.Need-is-same-requires
 is-same-requires c κs = search needs
 
--- src/lib.rt:82:17
 returns-2 : tie.Need-returns-2
-returns-2 c = ?
+returns-2 c = again-south _ (c .before .before .before .l .given .1) (c .before .is-same .ensures) (c .if1 .taken)
 
--- src/lib.rt:84:13
 returns-3 : tie.Need-returns-3
-returns-3 c = ?
+returns-3 c = again-north _ (c .before .before .before .l .given .1) (c .before .is-same .ensures) (c .if1 .left)
 
 pub again-spec : {M : Type 1} → statement M
 again-spec =

@@ -1,36 +1,26 @@
+-- Toward the row or away from it. Assumes nothing.
 use borrow.Author.Needs.{needs}
+use Rattle.rules.proofs.Rules.{along-nearing, along-leaving}
 use Rattle.rules.proofs.along.Statement.{statement}
 use Rattle.rules.proofs.along.Tie as tie
-use Rattle.rules.proofs.along.Reads as reads
-use Rattle.rules.proofs.along.Lts as lts
-use Rattle.rules.proofs.leaving.Reads as leaving-reads
-use Rattle.rules.proofs.nearing.Reads as nearing-reads
-use Rattle.rules.proofs.toward.Reads as toward-reads
-use Rattle.turns.proofs.is_same.Reads as is-same-reads
 
--- src/lib.rt:151:19
 toward-requires : tie.Need-toward-requires
 toward-requires c κs = search needs
 
--- src/lib.rt:151:8
 is-same-requires : tie.Need-is-same-requires
 is-same-requires c κs = search needs
 
--- src/lib.rt:152:9
 nearing-requires : tie.Need-nearing-requires
 nearing-requires c κs = search needs
 
--- src/lib.rt:152:9
 returns : tie.Need-returns
-returns c = ?
+returns c = along-nearing _ _ _ (c .before .before .before .before .before .before .before .pre .3) (c .before .before .before .toward .ensures _ _) (c .before .before .is-same .ensures) (c .before .if1 .taken) (c .nearing .ensures)
 
--- src/lib.rt:154:5
 leaving-requires : tie.Need-leaving-requires
 leaving-requires c κs = search needs
 
--- src/lib.rt:145:1
 returns-2 : tie.Need-returns-2
-returns-2 c = ?
+returns-2 c = along-leaving _ _ _ (c .before .before .before .before .before .before .before .pre .3) (c .before .before .before .toward .ensures _ _) (c .before .before .is-same .ensures) (c .before .if1 .left) (c .leaving .ensures)
 
 pub along-spec : {M : Type 1} → statement M
 along-spec =

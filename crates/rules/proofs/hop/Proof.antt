@@ -1,26 +1,24 @@
+-- In the destination's row or not. Assumes nothing.
 use borrow.Author.Needs.{needs}
+use borrow.Author.Tests.{eq-eqb, ne-eqb}
+use Rattle.mesh.specs.Hops.{hop}
+use Rattle.mesh.specs.Walk.{hopAt}
 use Rattle.rules.proofs.hop.Statement.{statement}
 use Rattle.rules.proofs.hop.Tie as tie
-use Rattle.rules.proofs.hop.Reads as reads
-use Rattle.rules.proofs.hop.Lts as lts
-use Rattle.rules.proofs.in_row.Reads as in-row-reads
-use Rattle.rules.proofs.other_row.Reads as other-row-reads
 
--- src/lib.rt:192:9
 in-row-requires : tie.Need-in-row-requires
 in-row-requires c κs = search needs
 
--- src/lib.rt:192:9
 returns : tie.Need-returns
-returns c = ?
+unfolding hopAt hop
+returns c = rw (eq-eqb _ _ (c .before .if1 .taken)) (c .in-row .ensures)
 
--- src/lib.rt:194:5
 other-row-requires : tie.Need-other-row-requires
 other-row-requires c κs = search needs
 
--- src/lib.rt:183:1
 returns-2 : tie.Need-returns-2
-returns-2 c = ?
+unfolding hopAt hop
+returns-2 c = rw (ne-eqb _ _ (c .before .if1 .left)) (c .other-row .ensures)
 
 pub hop-spec : {M : Type 1} → statement M
 hop-spec = tie.close (tie.spec in-row-requires returns other-row-requires returns-2)

@@ -1,34 +1,31 @@
+-- The column, then the west neighbour, then where the destination lies. Assumes nothing.
 use borrow.Author.Needs.{needs}
+use Rattle.mesh.specs.Refusals.{unserved}
+use Rattle.rules.proofs.Rules.{served-column, served-open, shut-row, shut-west}
 use Rattle.rules.proofs.is_unserved.Statement.{statement}
 use Rattle.rules.proofs.is_unserved.Tie as tie
-use Rattle.rules.proofs.is_unserved.Reads as reads
-use Rattle.rules.proofs.is_unserved.Lts as lts
-use Rattle.maps.proofs.is_bad_ahead.Reads as is-bad-ahead-reads
-use Rattle.rules.proofs.is_own.Reads as is-own-reads
 
--- src/lib.rt:207:9
 is-own-requires : tie.Need-is-own-requires
 is-own-requires c κs = search needs
 
--- src/lib.rt:208:9
 returns : tie.Need-returns
-returns c = ?
+unfolding unserved
+returns c = served-column _ _ _ (c .before .is-own .ensures _ _ _) (c .if1 .taken)
 
--- src/lib.rt:210:9
 is-bad-ahead-requires : tie.Need-is-bad-ahead-requires
 is-bad-ahead-requires c κs = search needs
 
--- src/lib.rt:211:9
 returns-2 : tie.Need-returns-2
-returns-2 c = ?
+unfolding unserved
+returns-2 c = served-open _ _ _ (c .before .before .before .is-own .ensures _ _ _) (c .before .before .if1 .left) (c .before .is-bad-ahead .ensures) (c .if2 .taken)
 
--- src/lib.rt:214:9
 returns-3 : tie.Need-returns-3
-returns-3 c = ?
+unfolding unserved
+returns-3 c = shut-row _ _ _ (c .before .before .before .before .before .before .is-own .ensures _ _ _) (c .before .before .before .before .before .if1 .left) (c .before .before .before .before .is-bad-ahead .ensures) (c .before .before .before .if2 .left) (c .if3 .taken)
 
--- src/lib.rt:199:1
 returns-4 : tie.Need-returns-4
-returns-4 c = ?
+unfolding unserved
+returns-4 c = shut-west _ _ _ (c .before .before .before .before .before .before .before .is-own .ensures _ _ _) (c .before .before .before .before .before .before .if1 .left) (c .before .before .before .before .before .is-bad-ahead .ensures) (c .before .before .before .before .if2 .left) (c .before .if3 .left)
 
 pub is-unserved-spec : {M : Type 1} → statement M
 is-unserved-spec =

@@ -1,15 +1,16 @@
+-- By the order of the columns. Assumes nothing.
+use borrow.Author.Tests.{lt-ltb, le-ltb}
+use Rattle.mesh.specs.Hops.{side}
 use Rattle.rules.proofs.side.Statement.{statement}
 use Rattle.rules.proofs.side.Tie as tie
-use Rattle.rules.proofs.side.Reads as reads
-use Rattle.rules.proofs.side.Lts as lts
 
--- src/lib.rt:27:9
 returns : tie.Need-returns
-returns c = ?
+unfolding side
+returns c = λ w R. rw (lt-ltb _ _ (c .if1 .taken))
 
--- src/lib.rt:23:1
 returns-2 : tie.Need-returns-2
-returns-2 c = ?
+unfolding side
+returns-2 c = λ w R. rw (le-ltb _ _ (c .if1 .left))
 
 pub side-spec : {M : Type 1} → statement M
 side-spec = tie.close (tie.spec returns returns-2)

@@ -1,15 +1,16 @@
+-- By the order of the rows. Assumes nothing.
+use borrow.Author.Tests.{lt-ltb, le-ltb}
+use Rattle.mesh.specs.Hops.{toward}
 use Rattle.rules.proofs.toward.Statement.{statement}
 use Rattle.rules.proofs.toward.Tie as tie
-use Rattle.rules.proofs.toward.Reads as reads
-use Rattle.rules.proofs.toward.Lts as lts
 
--- src/lib.rt:37:9
 returns : tie.Need-returns
-returns c = ?
+unfolding toward
+returns c = λ w C. rw (lt-ltb _ _ (c .if1 .taken))
 
--- src/lib.rt:33:1
 returns-2 : tie.Need-returns-2
-returns-2 c = ?
+unfolding toward
+returns-2 c = λ w C. rw (le-ltb _ _ (c .if1 .left))
 
 pub toward-spec : {M : Type 1} → statement M
 toward-spec = tie.close (tie.spec returns returns-2)
