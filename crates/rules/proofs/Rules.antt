@@ -1,5 +1,5 @@
 -- The rules as the code goes through them, case by case: what the tests found, and what the rules then say. Assumes nothing.
-use mathlib.Core.Path.{_≡_, refl, sym, _∙_}
+use mathlib.Core.Path.{_≡_, refl}
 use mathlib.Core.Logic.{inl, inr}
 use mathlib.Core.Bool.{Bool, true, false, not, cond, _||_}
 use Prim.Native.Nat.{ℕ}
@@ -8,7 +8,7 @@ use lib.Dec.{ltb}
 use Rattle.mesh.specs.declared.Heading.{Heading}
 use Rattle.mesh.specs.declared.Heading.the-variants.{East as E, North as N, South as S, West as W}
 use Rattle.mesh.specs.declared.Last.{Last}
-use Rattle.mesh.specs.declared.Last.the-variants.{None as none, Made as made}
+use Rattle.mesh.specs.declared.Last.the-variants.{Made as made}
 use Rattle.mesh.specs.Mesh.{letter, same}
 use Rattle.mesh.specs.Blocks.{ahead}
 use Rattle.mesh.specs.Hops.{Trip, blocked, side, toward, own, stopped, again, leaving, across, nearing, otherRow}
@@ -47,16 +47,16 @@ module _ (w : Trip) (r c : ℕ) where
       stopped-second n ez = rw (← es, ← ex, f, ← ey, not-false y n) ez
 
   -- rule 3
-  pub leaving-stopped : {h : Heading} {x : Bool} → x ≡ stopped w r c → x ≡ true → h ≡ leaving w r c h
+  pub leaving-stopped : (h : Heading) {x : Bool} → x ≡ stopped w r c → x ≡ true → h ≡ leaving w r c h
   unfolding leaving
-  leaving-stopped e t = rw (← e, t)
+  leaving-stopped h e t = rw (← e, t)
 
-  pub leaving-side : {h s : Heading} {x : Bool} → x ≡ stopped w r c → x ≡ false → s ≡ side w c → s ≡ leaving w r c h
+  pub leaving-side : (h : Heading) {s : Heading} {x : Bool} → x ≡ stopped w r c → x ≡ false → s ≡ side w c → s ≡ leaving w r c h
   unfolding leaving
-  leaving-side e f q = rw (← e, f) q
+  leaving-side h e f q = rw (← e, f) q
 
   -- rules 4 and 6
-  module _ {s : Heading} {x : Bool} (ex : x ≡ own w s c) where
+  module _ (s : Heading) {x : Bool} (ex : x ≡ own w s c) where
     pub across-other : not x ≡ true → s ≡ across w r c s
     unfolding across
     across-other n = rw (← ex, not-true x n)
@@ -71,7 +71,7 @@ module _ (w : Trip) (r c : ℕ) where
       across-toward f = rw (← ex, not-false x n, ← eh, ← ey, f)
 
   -- rule 5
-  module _ {h : Heading} {x : Bool} (ex : x ≡ ahead (w .bad) h 1 r c) where
+  module _ (h : Heading) {x : Bool} (ex : x ≡ ahead (w .bad) h 1 r c) where
     pub nearing-blocked : x ≡ true → W ≡ nearing w r c h
     unfolding nearing blocked
     nearing-blocked t = rw (← ex, t)
@@ -81,14 +81,14 @@ module _ (w : Trip) (r c : ℕ) where
     nearing-again f = rw (← ex, f)
 
   -- rules 3 and 5: the last hop leads toward R exactly if it is that way
-  toward-or-away : (h : Heading) → same h N || same h S ≡ true → otherRow w r c (made h) ≡ (cond (same h (toward w r)) (nearing w r c h) (leaving w r c h))
+  toward-or-away : (h : Heading) → same h N || same h S ≡ true → otherRow w r c (made h) ≡ cond (same h (toward w r)) (nearing w r c h) (leaving w r c h)
   unfolding otherRow toward same letter
   toward-or-away E v = true-false v refl
   toward-or-away N v = elim (value (ltb r (w .R))) [ inl e ↦ rw e | inr e ↦ rw e ]
   toward-or-away S v = elim (value (ltb r (w .R))) [ inl e ↦ rw e | inr e ↦ rw e ]
   toward-or-away W v = true-false v refl
 
-  module _ {h : Heading} (v : same h N || same h S ≡ true) {t : Heading} (et : t ≡ toward w r) {x : Bool} (ex : x ≡ same h t) {g : Heading} where
+  module _ (h : Heading) (v : same h N || same h S ≡ true) {t : Heading} (et : t ≡ toward w r) {x : Bool} (ex : x ≡ same h t) {g : Heading} where
     pub along-nearing : x ≡ true → g ≡ nearing w r c h → g ≡ otherRow w r c (made h)
     along-nearing y q = rw (toward-or-away h v, ← et, ← ex, y) q
 

@@ -19,7 +19,7 @@ use mesh::Place;
 use mesh::Row;
 use turns::is_same;
 
-// From this column to that one: E if it is greater, else W.
+// The side of that column, from this one: E if it is greater, else W.
 fn side(from: Column, to: Column) -> Heading
     ensures { λ x. ⌜ ((w : Mesh) (R : ℕ) → x ≡ side (tripOn w R (to .0)) (from .0)) ⌝ }
 {
@@ -39,20 +39,21 @@ fn toward(from: Row, to: Row) -> Heading
     Heading::South
 }
 
-// Whether a side's own turns are permitted in this column: EN and ES, or NW and SW. Nothing else here knows which columns these are.
+// Whether this column permits a side's own turns, EN and ES or NW and SW: odd for E, even for W. Nothing else here knows which do.
 fn is_own(s: Heading, c: Column) -> bool
     ensures { λ x. ⌜ ((w : Mesh) (R C : ℕ) → x ≡ own (tripOn w R C) s (c .0)) ⌝ }
 {
     let column = c.0;
+    let even = column % 2 == 0;
     match s {
-        Heading::East => return column % 2 != 0,
+        Heading::East => return !even,
         Heading::North => return false,
         Heading::South => return false,
-        Heading::West => return column % 2 == 0,
+        Heading::West => return even,
     }
 }
 
-// Whether the packet is stopped: the next node to the side is in a block, or the second one is, where the column is one of the side's own.
+// Whether the packet is stopped: the next node to the side is in a block, or the second one is and the column permits the side's turns.
 pub fn is_stopped(columns: u32, rows: u32, marks: &[u8], p: Packet) -> bool
     requires { ⌜ Sized columns rows (now marks) × (p .place .row .0 < 64) × (p .place .column .0 < 64) ⌝ }
     ensures { λ x. ⌜ x ≡ stopped (tripOf (mesh columns rows (now (marks .entry))) p) (p .place .row .0) (p .place .column .0) ⌝ }
@@ -61,17 +62,17 @@ pub fn is_stopped(columns: u32, rows: u32, marks: &[u8], p: Packet) -> bool
     let destination = p.destination;
     let r = place.row;
     let c = place.column;
-    let s = side(c, destination.column);
-    if is_bad_ahead(columns, rows, marks, r, c, s, 1) {
+    let h = side(c, destination.column);
+    if is_bad_ahead(columns, rows, marks, r, c, h, 1) {
         return true;
     }
-    if !is_own(s, c) {
+    if !is_own(h, c) {
         return false;
     }
-    is_bad_ahead(columns, rows, marks, r, c, s, 2)
+    is_bad_ahead(columns, rows, marks, r, c, h, 2)
 }
 
-// At a stop: the last hop again if it was N or S, else N.
+// The hop at a stop in the destination's row: the last one again if it was N or S, else N.
 fn again(l: Last) -> Heading
     ensures { λ x. ⌜ x ≡ again l ⌝ }
 {
@@ -86,7 +87,7 @@ fn again(l: Last) -> Heading
     }
 }
 
-// Rule 3, where the last hop h leads away from the row: stopped, h again, else to the side.
+// Rule 3, where the last hop h leads away from the destination's row: stopped, it is repeated, else the hop is to the side.
 fn leaving(columns: u32, rows: u32, marks: &[u8], p: Packet, h: Heading) -> Heading
     requires { ⌜ Sized columns rows (now marks) × (p .place .row .0 < 64) × (p .place .column .0 < 64) ⌝ }
     ensures { λ x. ⌜ x ≡ leaving (tripOf (mesh columns rows (now (marks .entry))) p) (p .place .row .0) (p .place .column .0) h ⌝ }
@@ -99,7 +100,7 @@ fn leaving(columns: u32, rows: u32, marks: &[u8], p: Packet, h: Heading) -> Head
     side(place.column, destination.column)
 }
 
-// Rule 2, in the destination's row: as rule 3 has it, with what is to be hopped at a stop.
+// Rule 2, in the destination's row: as rule 3, with the hop that a stop asks for.
 fn in_row(columns: u32, rows: u32, marks: &[u8], p: Packet) -> Heading
     requires { ⌜ Sized columns rows (now marks) × (p .place .row .0 < 64) × (p .place .column .0 < 64) ⌝ }
     ensures { λ x. ⌜ x ≡ inRow (tripOf (mesh columns rows (now (marks .entry))) p) (p .place .row .0) (p .place .column .0) (p .last) ⌝ }
@@ -108,7 +109,7 @@ fn in_row(columns: u32, rows: u32, marks: &[u8], p: Packet) -> Heading
     leaving(columns, rows, marks, p, again(l))
 }
 
-// Rules 4 (s is E) and 6 (s is W): toward the row if the column is one of the side's own and that node isn't in a block, else to s.
+// Rules 4 (s is E) and 6 (s is W): toward the destination's row if the column permits the turn and that node isn't in a block, else s.
 fn across(columns: u32, rows: u32, marks: &[u8], p: Packet, s: Heading) -> Heading
     requires { ⌜ Sized columns rows (now marks) × (p .place .row .0 < 64) × (p .place .column .0 < 64) ⌝ }
     ensures { λ x. ⌜ x ≡ across (tripOf (mesh columns rows (now (marks .entry))) p) (p .place .row .0) (p .place .column .0) s ⌝ }
@@ -127,7 +128,7 @@ fn across(columns: u32, rows: u32, marks: &[u8], p: Packet, s: Heading) -> Headi
     h
 }
 
-// Rule 5, where the last hop h leads toward the row: h again if that node isn't in a block, else W.
+// Rule 5, where the last hop h leads toward the destination's row: it is repeated if that node isn't in a block, else W.
 fn nearing(columns: u32, rows: u32, marks: &[u8], p: Packet, h: Heading) -> Heading
     requires { ⌜ Sized columns rows (now marks) × (p .place .row .0 < 64) × (p .place .column .0 < 64) ⌝ }
     ensures { λ x. ⌜ x ≡ nearing (tripOf (mesh columns rows (now (marks .entry))) p) (p .place .row .0) (p .place .column .0) h ⌝ }

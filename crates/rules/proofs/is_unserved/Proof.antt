@@ -25,7 +25,7 @@ returns-3 c = shut-row _ _ _ (c .before .before .before .before .before .before 
 
 returns-4 : tie.Need-returns-4
 unfolding unserved
-returns-4 c = shut-west _ _ _ (c .before .before .before .before .before .before .before .is-own .ensures _ _ _) (c .before .before .before .before .before .before .if1 .left) (c .before .before .before .before .before .is-bad-ahead .ensures) (c .before .before .before .before .if2 .left) (c .before .if3 .left)
+returns-4 c = shut-west _ _ _ (c .before .before .before .before .before .before .before .before .is-own .ensures _ _ _) (c .before .before .before .before .before .before .before .if1 .left) (c .before .before .before .before .before .before .is-bad-ahead .ensures) (c .before .before .before .before .before .if2 .left) (c .before .before .if3 .left)
 
 pub is-unserved-spec : {M : Type 1} → statement M
 is-unserved-spec =
