@@ -205,14 +205,18 @@ pub fn is_unserved(columns: u32, rows: u32, marks: &[u8], s: Place, d: Place) ->
     let c = s.column;
     let to_r = d.row;
     let to_c = d.column;
+    let row = r.0;
+    let column = c.0;
+    let to_row = to_r.0;
+    let to_column = to_c.0;
     if !is_own(Heading::East, c) {
         return false;
     }
     if !is_bad_ahead(columns, rows, marks, r, c, Heading::West, 1) {
         return false;
     }
-    if r.0 != to_r.0 {
+    if row != to_row {
         return true;
     }
-    to_c.0 < c.0
+    to_column < column
 }
