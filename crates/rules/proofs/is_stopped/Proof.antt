@@ -1,0 +1,38 @@
+-- The next node, then the column, then the second node. Assumes nothing.
+use borrow.Author.Needs.{needs}
+use Rattle.rules.proofs.Rules.{stopped-next, stopped-not, stopped-second}
+use Rattle.rules.proofs.is_stopped.Statement.{statement}
+use Rattle.rules.proofs.is_stopped.Tie as tie
+
+side-requires : tie.Need-side-requires
+side-requires c κs = search needs
+
+is-bad-ahead-requires : tie.Need-is-bad-ahead-requires
+is-bad-ahead-requires c κs = search needs
+
+returns : tie.Need-returns
+returns c = stopped-next _ _ _ (c .before .before .side .ensures _ _) (c .before .is-bad-ahead .ensures) (c .if1 .taken)
+
+is-own-requires : tie.Need-is-own-requires
+is-own-requires c κs = search needs
+
+returns-2 : tie.Need-returns-2
+returns-2 c = stopped-not _ _ _ (c .before .before .before .before .side .ensures _ _) (c .before .before .before .is-bad-ahead .ensures) (c .before .before .if1 .left) (c .before .is-own .ensures _ _ _) (c .if2 .taken)
+
+is-bad-ahead-requires-2 : tie.Need-is-bad-ahead-requires-2
+is-bad-ahead-requires-2 c κs = search needs
+
+returns-3 : tie.Need-returns-3
+returns-3 c = stopped-second _ _ _ (c .before .before .before .before .before .side .ensures _ _) (c .before .before .before .before .is-bad-ahead .ensures) (c .before .before .before .if1 .left) (c .before .before .is-own .ensures _ _ _) (c .before .if2 .left) (c .is-bad-ahead2 .ensures)
+
+pub is-stopped-spec : {M : Type 1} → statement M
+is-stopped-spec =
+    tie.close
+    (tie.spec
+    side-requires
+    is-bad-ahead-requires
+    returns
+    is-own-requires
+    returns-2
+    is-bad-ahead-requires-2
+    returns-3)

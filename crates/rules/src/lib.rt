@@ -1,0 +1,222 @@
+// The hop rules, and the condition that refusal 9 comes to.
+ghost use mathlib.Core.Path.{_≡_};
+ghost use mathlib.Core.Bool.{true, _||_};
+ghost use Prim.Native.Nat.{ℕ, _<_};
+ghost use Rattle.mesh.specs.declared.Heading.the-variants.{North, South};
+ghost use Rattle.mesh.specs.declared.Last.the-variants.{Made};
+ghost use Rattle.mesh.specs.Mesh.{Mesh, mesh, same};
+ghost use Rattle.mesh.specs.Hops.{side, toward, own, stopped, again, inRow, leaving, across, nearing, otherRow};
+ghost use Rattle.mesh.specs.Walk.{tripOn, hopAt};
+ghost use Rattle.mesh.specs.Packets.{at, tripOf};
+ghost use Rattle.mesh.specs.Refusals.{unserved};
+ghost use Rattle.maps.specs.Sized.{Sized};
+use maps::is_bad_ahead;
+use mesh::Column;
+use mesh::Heading;
+use mesh::Last;
+use mesh::Packet;
+use mesh::Place;
+use mesh::Row;
+use turns::is_same;
+
+// The side of that column, from this one: E if it is greater, else W.
+fn side(from: Column, to: Column) -> Heading
+    ensures { λ x. ⌜ ((w : Mesh) (R : ℕ) → x ≡ side (tripOn w R (to .0)) (from .0)) ⌝ }
+{
+    if from.0 < to.0 {
+        return Heading::East;
+    }
+    Heading::West
+}
+
+// The vertical direction from this row to that one.
+fn toward(from: Row, to: Row) -> Heading
+    ensures { λ x. ⌜ ((w : Mesh) (C : ℕ) → x ≡ toward (tripOn w (to .0) C) (from .0)) ⌝ }
+{
+    if from.0 < to.0 {
+        return Heading::North;
+    }
+    Heading::South
+}
+
+// Whether this column permits a side's own turns, EN and ES or NW and SW: odd for E, even for W. Nothing else here knows which do.
+fn is_own(s: Heading, c: Column) -> bool
+    ensures { λ x. ⌜ ((w : Mesh) (R C : ℕ) → x ≡ own (tripOn w R C) s (c .0)) ⌝ }
+{
+    let column = c.0;
+    let even = column % 2 == 0;
+    match s {
+        Heading::East => return !even,
+        Heading::North => return false,
+        Heading::South => return false,
+        Heading::West => return even,
+    }
+}
+
+// Whether the packet is stopped: the next node to the side is in a block, or the second one is and the column permits the side's turns.
+pub fn is_stopped(columns: u32, rows: u32, marks: &[u8], p: Packet) -> bool
+    requires { ⌜ Sized columns rows (now marks) × (p .place .row .0 < 64) × (p .place .column .0 < 64) ⌝ }
+    ensures { λ x. ⌜ x ≡ stopped (tripOf (mesh columns rows (now (marks .entry))) p) (p .place .row .0) (p .place .column .0) ⌝ }
+{
+    let place = p.place;
+    let destination = p.destination;
+    let r = place.row;
+    let c = place.column;
+    let h = side(c, destination.column);
+    if is_bad_ahead(columns, rows, marks, r, c, h, 1) {
+        return true;
+    }
+    if !is_own(h, c) {
+        return false;
+    }
+    is_bad_ahead(columns, rows, marks, r, c, h, 2)
+}
+
+// The hop at a stop in the destination's row: the last one again if it was N or S, else N.
+fn again(l: Last) -> Heading
+    ensures { λ x. ⌜ x ≡ again l ⌝ }
+{
+    match l {
+        Last::None => return Heading::North,
+        Last::Made(h) => {
+            if is_same(h, Heading::South) {
+                return Heading::South;
+            }
+            return Heading::North;
+        }
+    }
+}
+
+// Rule 3, where the last hop h leads away from the destination's row: stopped, it is repeated, else the hop is to the side.
+fn leaving(columns: u32, rows: u32, marks: &[u8], p: Packet, h: Heading) -> Heading
+    requires { ⌜ Sized columns rows (now marks) × (p .place .row .0 < 64) × (p .place .column .0 < 64) ⌝ }
+    ensures { λ x. ⌜ x ≡ leaving (tripOf (mesh columns rows (now (marks .entry))) p) (p .place .row .0) (p .place .column .0) h ⌝ }
+{
+    let place = p.place;
+    let destination = p.destination;
+    if is_stopped(columns, rows, marks, p) {
+        return h;
+    }
+    side(place.column, destination.column)
+}
+
+// Rule 2, in the destination's row: as rule 3, with the hop that a stop asks for.
+fn in_row(columns: u32, rows: u32, marks: &[u8], p: Packet) -> Heading
+    requires { ⌜ Sized columns rows (now marks) × (p .place .row .0 < 64) × (p .place .column .0 < 64) ⌝ }
+    ensures { λ x. ⌜ x ≡ inRow (tripOf (mesh columns rows (now (marks .entry))) p) (p .place .row .0) (p .place .column .0) (p .last) ⌝ }
+{
+    let l = p.last;
+    leaving(columns, rows, marks, p, again(l))
+}
+
+// Rules 4 (s is E) and 6 (s is W): toward the destination's row if the column permits the turn and that node isn't in a block, else s.
+fn across(columns: u32, rows: u32, marks: &[u8], p: Packet, s: Heading) -> Heading
+    requires { ⌜ Sized columns rows (now marks) × (p .place .row .0 < 64) × (p .place .column .0 < 64) ⌝ }
+    ensures { λ x. ⌜ x ≡ across (tripOf (mesh columns rows (now (marks .entry))) p) (p .place .row .0) (p .place .column .0) s ⌝ }
+{
+    let place = p.place;
+    let destination = p.destination;
+    let r = place.row;
+    let c = place.column;
+    if !is_own(s, c) {
+        return s;
+    }
+    let h = toward(r, destination.row);
+    if is_bad_ahead(columns, rows, marks, r, c, h, 1) {
+        return s;
+    }
+    h
+}
+
+// Rule 5, where the last hop h leads toward the destination's row: it is repeated if that node isn't in a block, else W.
+fn nearing(columns: u32, rows: u32, marks: &[u8], p: Packet, h: Heading) -> Heading
+    requires { ⌜ Sized columns rows (now marks) × (p .place .row .0 < 64) × (p .place .column .0 < 64) ⌝ }
+    ensures { λ x. ⌜ x ≡ nearing (tripOf (mesh columns rows (now (marks .entry))) p) (p .place .row .0) (p .place .column .0) h ⌝ }
+{
+    let place = p.place;
+    let r = place.row;
+    let c = place.column;
+    if is_bad_ahead(columns, rows, marks, r, c, h, 1) {
+        return Heading::West;
+    }
+    h
+}
+
+// Rules 3 and 5, after hop h, which is N or S.
+fn along(columns: u32, rows: u32, marks: &[u8], p: Packet, h: Heading) -> Heading
+    requires { ⌜ Sized columns rows (now marks) × (p .place .row .0 < 64) × (p .place .column .0 < 64) × (same h North || same h South ≡ true) ⌝ }
+    ensures { λ x. ⌜ x ≡ otherRow (tripOf (mesh columns rows (now (marks .entry))) p) (p .place .row .0) (p .place .column .0) (Made h) ⌝ }
+{
+    let place = p.place;
+    let destination = p.destination;
+    if is_same(h, toward(place.row, destination.row)) {
+        return nearing(columns, rows, marks, p, h);
+    }
+    leaving(columns, rows, marks, p, h)
+}
+
+// Rules 3 to 6, after hop h.
+fn after(columns: u32, rows: u32, marks: &[u8], p: Packet, h: Heading) -> Heading
+    requires { ⌜ Sized columns rows (now marks) × (p .place .row .0 < 64) × (p .place .column .0 < 64) ⌝ }
+    ensures { λ x. ⌜ x ≡ otherRow (tripOf (mesh columns rows (now (marks .entry))) p) (p .place .row .0) (p .place .column .0) (Made h) ⌝ }
+{
+    match h {
+        Heading::East => return across(columns, rows, marks, p, h),
+        Heading::North => return along(columns, rows, marks, p, h),
+        Heading::South => return along(columns, rows, marks, p, h),
+        Heading::West => return across(columns, rows, marks, p, h),
+    }
+}
+
+// Rules 3 to 6, in another row than the destination's.
+fn other_row(columns: u32, rows: u32, marks: &[u8], p: Packet) -> Heading
+    requires { ⌜ Sized columns rows (now marks) × (p .place .row .0 < 64) × (p .place .column .0 < 64) ⌝ }
+    ensures { λ x. ⌜ x ≡ otherRow (tripOf (mesh columns rows (now (marks .entry))) p) (p .place .row .0) (p .place .column .0) (p .last) ⌝ }
+{
+    let l = p.last;
+    match l {
+        Last::None => return across(columns, rows, marks, p, Heading::West),
+        Last::Made(h) => return after(columns, rows, marks, p, h),
+    }
+}
+
+// The hop by the rules, where the packet is not yet at its destination.
+pub fn hop(columns: u32, rows: u32, marks: &[u8], p: Packet) -> Heading
+    requires { ⌜ Sized columns rows (now marks) × (p .place .row .0 < 64) × (p .place .column .0 < 64) ⌝ }
+    ensures { λ x. ⌜ x ≡ hopAt (tripOf (mesh columns rows (now (marks .entry))) p) (at p) ⌝ }
+{
+    let place = p.place;
+    let destination = p.destination;
+    let r = place.row;
+    let to_r = destination.row;
+    if r.0 == to_r.0 {
+        return in_row(columns, rows, marks, p);
+    }
+    other_row(columns, rows, marks, p)
+}
+
+// What refusal 9 comes to: NW and SW are forbidden in the source's column, its west neighbour is in a block, and the destination is in
+// another row or to the west.
+pub fn is_unserved(columns: u32, rows: u32, marks: &[u8], s: Place, d: Place) -> bool
+    requires { ⌜ Sized columns rows (now marks) × (s .row .0 < 64) × (s .column .0 < 64) ⌝ }
+    ensures { λ x. ⌜ x ≡ unserved (mesh columns rows (now (marks .entry))) s d ⌝ }
+{
+    let r = s.row;
+    let c = s.column;
+    let to_r = d.row;
+    let to_c = d.column;
+    let row = r.0;
+    let column = c.0;
+    let to_row = to_r.0;
+    let to_column = to_c.0;
+    if !is_own(Heading::East, c) {
+        return false;
+    }
+    if !is_bad_ahead(columns, rows, marks, r, c, Heading::West, 1) {
+        return false;
+    }
+    if row != to_row {
+        return true;
+    }
+    to_column < column
+}
