@@ -6,5 +6,6 @@ pub mod Walk
 pub mod Refusals
 pub mod Operations
 pub mod Packets
+pub mod Moving
 pub mod Judging
 pub mod Cases

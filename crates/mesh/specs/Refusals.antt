@@ -1,8 +1,8 @@
 -- The refusals of document 01 and their numbers, tested in the order listed: the first that holds is the answer. Assumes nothing.
-use mathlib.Core.Bool.{Bool, true, false, not, cond, _&&_, _||_}
+use mathlib.Core.Bool.{Bool, false, not, cond, _&&_, _||_}
 use mathlib.Core.List.{List, [], _∷_}
-use Prim.Native.Nat.{ℕ, zero, suc, _*_, _/_, _%_}
-use lib.Dec.{leb, ltb, eqb}
+use Prim.Native.Nat.{ℕ, suc, _*_, _/_, _%_}
+use lib.Dec.{ltb, eqb}
 use lib.ListN.{length}
 use Rattle.mesh.specs.declared.Refusal.{Refusal}
 use Rattle.mesh.specs.declared.Refusal.the-variants.{Columns, Rows, MapLength, MapByte, FaultPlace, OffMesh, InBlock, OnRing, Unlawful, Room}

@@ -1,6 +1,6 @@
 -- The turn rules (document 01, "Turns"). A turn is named by the hop before and the hop after; its column is that of the node between them.
 -- Assumes nothing.
-use mathlib.Core.Bool.{Bool, true, false, not, _&&_, _||_}
+use mathlib.Core.Bool.{Bool, false, not, _&&_, _||_}
 use Prim.Native.Nat.{ℕ, _%_}
 use lib.Dec.{eqb}
 use Rattle.mesh.specs.Mesh.{Heading, E, N, S, W, Last, none, made, opposite, same}

@@ -1,5 +1,5 @@
 -- Lawful hops and routes, the walk by the hop rules, and the bound on its hops (document 01, "What demand 3 compares"). Assumes nothing.
-use mathlib.Core.Bool.{Bool, true, not, cond, _&&_, _||_}
+use mathlib.Core.Bool.{Bool, not, cond, _&&_, _||_}
 use mathlib.Core.List.{List, [], _∷_}
 use Prim.Native.Nat.{ℕ, zero, suc, _+_, _-_, _*_, max, min}
 use lib.Dec.{leb, ltb, eqb}

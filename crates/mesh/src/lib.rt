@@ -90,3 +90,16 @@ pub enum Judged {
     Failed(Fault, usize),
     Refused(Refusal),
 }
+
+// What moving on answers.
+pub enum Moved {
+    Hop(Heading),
+    Arrived,
+    Refused(Refusal),
+}
+
+// A packet's record after moving on, with the answer.
+pub struct Stepped {
+    pub packet: Packet,
+    pub moved: Moved,
+}

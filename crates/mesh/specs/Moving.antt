@@ -1,0 +1,54 @@
+-- Moving a packet on by one hop (document 01, "Move on"). Assumes nothing.
+use mathlib.Core.Path.{_≡_}
+use mathlib.Core.Bool.{Bool, not, cond, _&&_}
+use mathlib.Core.List.{List}
+use Prim.Native.Nat.{ℕ, zero, suc}
+use Rattle.mesh.specs.declared.Moved.{Moved}
+use Rattle.mesh.specs.declared.Moved.the-variants as moves
+use Rattle.mesh.specs.declared.Packet.{Packet}
+use Rattle.mesh.specs.Mesh.{Mesh, mesh, Heading, letter}
+use Rattle.mesh.specs.Blocks.{marked}
+use Rattle.mesh.specs.Walk.{lawful, hopAt}
+use Rattle.mesh.specs.Packets.{at, tripOf, isThere, movedPacket}
+use Rattle.mesh.specs.Refusals.{number, mapRefusals, placeRefusals, onARing}
+
+-- an answer in the paper's terms: the letter, "arrived", or the number of a refusal
+pub data Told : Type 0 where
+  hopped : ℕ → Told
+  there : Told
+  refused : ℕ → Told
+
+-- the enum's cases as answers
+unfoldable pub movedTold : Moved → Told
+movedTold (moves.Hop h) = hopped (letter h)
+movedTold moves.Arrived = there
+movedTold (moves.Refused r) = refused (number r)
+
+-- refusals 1 to 8 as for a route, the packet's place standing for the source
+unfoldable pub moveRefusal : ℕ → ℕ → List ℕ → Packet → ℕ
+moveRefusal columns rows map p =
+    let w = marked (mesh columns rows map) in
+    mapRefusals columns rows map (placeRefusals w (p .place) (p .destination) (cond (onARing w (p .destination)) 8 0))
+
+-- the hop by the rules from where the packet is, on a marked mesh
+unfoldable pub hopFrom : Mesh → Packet → Heading
+hopFrom w p = hopAt (tripOf w p) (at p)
+
+-- this one hop is lawful
+unfoldable pub mayHop : Mesh → Packet → Bool
+mayHop w p = lawful (tripOf w p) (at p) (hopFrom w p)
+
+-- the refusal of that number, if it is not 0; then "arrived" if it is there; then 9 if this one hop is unlawful; else the letter
+unfoldable pub told : ℕ → Mesh → Packet → Told
+told zero w p = cond (isThere p) there (cond (mayHop w p) (hopped (letter (hopFrom w p))) (refused 9))
+told (suc k) w p = refused (suc k)
+
+-- the record after it: in "arrived" and every refusal unchanged
+unfoldable pub recordAfter : ℕ → Mesh → Packet → Packet
+recordAfter zero w p = cond (not (isThere p) && mayHop w p) (movedPacket (hopFrom w p) p) p
+recordAfter (suc k) w p = p
+
+-- the promise of "Move on" for a packet's record before and after it
+pub record MovesOn (columns rows : ℕ) (map : List ℕ) (p : Packet) (m : Moved) (after : Packet) : Type 0 where
+  pub answers : movedTold m ≡ told (moveRefusal columns rows map p) (marked (mesh columns rows map)) p
+  pub leaves : after ≡ recordAfter (moveRefusal columns rows map p) (marked (mesh columns rows map)) p
