@@ -25,12 +25,16 @@ rest left w p = walk left (tripOf w p) (at p)
 abbrev pub hopLimit : ℕ
 hopLimit = 24705
 
--- the packet is on the mesh, fewer hops than left lead to its destination, and their letters have room from index made on
-pub record Going (columns rows : ℕ) (marks : List ℕ) (p : Packet) (out : List ℕ) (made left : ℕ) : Type 0 where
+-- the packet is on the mesh, and fewer hops than left lead to its destination
+pub record OnWay (columns rows : ℕ) (marks : List ℕ) (p : Packet) (left : ℕ) : Type 0 where
   pub sized : Sized columns rows marks
   pub row : p .place .row .0 < rows
   pub column : p .place .column .0 < columns
   pub leads : Leads left (tripOf (mesh columns rows marks) p) (at p)
+
+-- and their letters have room from index made on
+pub record Going (columns rows : ℕ) (marks : List ℕ) (p : Packet) (out : List ℕ) (made left : ℕ) : Type 0 where
+  pub on-way : OnWay columns rows marks p left
   pub room : made + length (rest left (mesh columns rows marks) p) ≤ length out
   pub few : made + left ≤ hopLimit
 

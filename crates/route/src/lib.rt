@@ -1,19 +1,18 @@
 // The operation "Route". A route is followed in two modes that hand over to each other.
 ghost use mathlib.Core.Path.{_≡_};
-ghost use mathlib.Core.Bool.{cond, false};
-ghost use Prim.Native.Nat.{_+_, _≤_, _<_};
-ghost use lib.Dec.{eqb};
+ghost use mathlib.Core.Bool.{false};
+ghost use lib.Dec.{eqb, leb};
 ghost use lib.ListN.{length, set};
 ghost use Rattle.mesh.specs.Mesh.{mesh, letter};
 ghost use Rattle.mesh.specs.Blocks.{bad, blocks};
 ghost use Rattle.mesh.specs.Packets.{isThere, movedPacket};
 ghost use Rattle.mesh.specs.Moving.{hopFrom};
-ghost use Rattle.mesh.specs.Refusals.{checkedNumber, placeRefusals, onARing, unserved};
+ghost use Rattle.mesh.specs.Refusals.{checkedNumber};
 ghost use Rattle.mesh.specs.Operations.{Routes};
 ghost use Rattle.block_theory.specs.Obstacles.{Obstacles};
 ghost use Rattle.maps.specs.Sized.{Sized};
-ghost use Rattle.route.specs.Following.{Going, Follows};
-ghost use Rattle.route.specs.Marked.{RoutesOn};
+ghost use Rattle.route.specs.Following.{hopLimit, rest, OnWay, Going, Follows};
+ghost use Rattle.route.specs.Marked.{requestRefusals, RoutesOn};
 use hops::is_there;
 use hops::moved;
 use marking::mark_map;
@@ -101,4 +100,83 @@ fn round_block(
         return straight(columns, rows, marks, q, out, made + 1, left - 1);
     }
     round_block(columns, rows, marks, q, out, made + 1, left - 1)
+}
+
+// Whether the hops from here to the destination fit into so many bytes. No route has more than 24704.
+fn has_room(columns: u32, rows: u32, marks: &[u8], packet: Packet, room: usize) -> bool
+    requires { ⌜ OnWay columns rows (now marks) packet hopLimit ⌝ }
+    ensures { λ x. ⌜ x ≡ leb (length (rest hopLimit (mesh columns rows (now (marks .entry))) packet)) room ⌝ }
+{
+    if 24704 <= room {
+        return true;
+    }
+    let mut p = packet;
+    let mut n = 0;
+    while n < room {
+        if is_there(p) {
+            return true;
+        }
+        let h = hop(columns, rows, marks, p);
+        p = moved(p, h);
+        n += 1;
+    }
+    is_there(p)
+}
+
+// Refusals 6 to 9, in this order.
+fn check_request(columns: u32, rows: u32, marks: &[u8], s: Place, d: Place) -> Checked
+    requires { ⌜ Sized columns rows (now marks) × Obstacles columns rows (bad (mesh columns rows (now marks))) (blocks (mesh columns rows (now marks))) ⌝ }
+    ensures { λ x. ⌜ checkedNumber x ≡ requestRefusals (mesh columns rows (now (marks .entry))) s d 0 ⌝ }
+{
+    let checked = check_places(columns, rows, marks, s, d);
+    if let Checked::Refused(why) = checked {
+        return Checked::Refused(why);
+    }
+    if is_on_ring(columns, rows, marks, d) {
+        return Checked::Refused(Refusal::OnRing);
+    }
+    if is_unserved(columns, rows, marks, s, d) {
+        return Checked::Refused(Refusal::Unlawful);
+    }
+    Checked::Clear
+}
+
+// Route on a marking already made: refusals 6 to 10, then the letters.
+pub fn route_marked(
+    columns: u32,
+    rows: u32,
+    marks: &[u8],
+    s: Place,
+    d: Place,
+    out: &mut [u8],
+) -> Routed
+    requires { ⌜ Sized columns rows (now marks) × Obstacles columns rows (bad (mesh columns rows (now marks))) (blocks (mesh columns rows (now marks))) ⌝ }
+    ensures { λ x. ⌜ RoutesOn (mesh columns rows (now (marks .entry))) s d (now (out .entry)) x (now (out .exit)) ⌝ }
+{
+    let checked = check_request(columns, rows, marks, s, d);
+    if let Checked::Refused(why) = checked {
+        return Routed::Refused(why);
+    }
+    let fresh = Packet {
+        place: s,
+        last: Last::None,
+        destination: d,
+    };
+    if !has_room(columns, rows, marks, fresh, out.len()) {
+        return Routed::Refused(Refusal::Room);
+    }
+    let hops = straight(columns, rows, marks, fresh, out, 0, 24705);
+    Routed::Hops(hops)
+}
+
+// Route: writes the letters of the hops, and answers their number.
+pub fn route(columns: u32, rows: u32, map: &[u8], s: Place, d: Place, out: &mut [u8]) -> Routed
+    ensures { λ x. ⌜ Routes columns rows (now (map .entry)) s d (now (out .entry)) x (now (out .exit)) ⌝ }
+{
+    let mut marks = [0u8; 4096];
+    let checked = mark_map(columns, rows, map, &mut marks);
+    if let Checked::Refused(why) = checked {
+        return Routed::Refused(why);
+    }
+    route_marked(columns, rows, &marks[..map.len()], s, d, out)
 }

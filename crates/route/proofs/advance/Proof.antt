@@ -1,6 +1,5 @@
 -- One hop of the walk. Assumes nothing.
 use borrow.Author.Needs.{needs}
-use mathlib.Core.Path.{sym, _∙_}
 use Rattle.mesh.specs.Moving.{hopFrom}
 use Rattle.route.proofs.Following.{going-lands, going-writes}
 use Rattle.route.proofs.advance.Statement.{statement}
