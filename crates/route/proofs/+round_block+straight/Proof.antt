@@ -1,6 +1,6 @@
 -- The two modes: one walk, and what falls is the hop limit less the hops made. Assumes nothing.
 use mathlib.Core.Path.{sym, _∙_}
-use Prim.Native.Nat.{ℕ}
+use Prim.Native.Nat.{ℕ, _<_}
 use native.Mathlib.Omega.{arith}
 use borrow.Author.Tests.{not-true}
 use borrow.Fn.Kinds.{In}
