@@ -1,0 +1,81 @@
+-- What it says that none of a request's refusals applies. Assumes nothing.
+use mathlib.Core.Path.{_≡_, refl}
+use mathlib.Core.Bool.{Bool, true, false, cond, _||_}
+use mathlib.Core.List.{List}
+use Prim.Native.Nat.{ℕ, suc}
+use native.Mathlib.Omega.{arith}
+use Rattle.mesh.specs.declared.Place.{Place}
+use Rattle.mesh.specs.Mesh.{Mesh, mesh}
+use Rattle.mesh.specs.Blocks.{marked, blocks}
+use Rattle.mesh.specs.Refusals.{badSize, badLength, badByte, misplaced, offMesh, inBlock, onARing, unserved, mapRefusals, placeRefusals}
+use Rattle.mesh.proofs.Bools.{or-none}
+use Rattle.mesh.proofs.Refusals.{accepted}
+use Rattle.block_theory.proofs.Theorems.{obstacles}
+use Rattle.walk_theory.specs.Course.{Course, Served}
+use Rattle.walk_theory.proofs.Theorems.{destination-course, source-served}
+use Rattle.judge_theory.specs.Claims.{tripTo}
+use Rattle.demands.specs.Demand3.{refusal1to8, requestRefusal}
+
+-- a test that does not apply
+skips : (b : Bool) (k n : ℕ) → cond b (suc k) n ≡ 0 → (b ≡ false) × (n ≡ 0)
+skips true k n h = absurd (omega arith)
+skips false k n h = (refl, h)
+
+-- refusals 1 to 5 do not apply, and none of the others
+maps-pass : (columns rows : ℕ) (map : List ℕ) {n : ℕ} → mapRefusals columns rows map n ≡ 0 → (mapRefusals columns rows map 0 ≡ 0) × (n ≡ 0)
+unfolding mapRefusals
+maps-pass columns rows map h =
+    let (a, i) = skips (badSize columns) _ _ h in
+    let (b, j) = skips (badSize rows) _ _ i in
+    let (e, k) = skips (badLength columns rows map) _ _ j in
+    let (f, l) = skips (badByte map) _ _ k in
+    let (g, m) = skips (misplaced columns rows map) _ _ l in
+    (rw (a, b, e, f, g), m)
+
+-- nor 6 and 7
+places-pass : (w : Mesh) (s d : Place) {n : ℕ} → placeRefusals w s d n ≡ 0 →
+    (offMesh w s || offMesh w d ≡ false) × (inBlock w s || inBlock w d ≡ false) × (n ≡ 0)
+unfolding placeRefusals
+places-pass w s d h =
+    let (a, i) = skips (offMesh w s || offMesh w d) _ _ h in
+    let (b, j) = skips (inBlock w s || inBlock w d) _ _ i in
+    (a, b, j)
+
+-- a request that refusals 1 to 8 let pass
+pub record Passed (columns rows : ℕ) (map : List ℕ) (s d : Place) : Type 0 where
+  pub map-passes : mapRefusals columns rows map 0 ≡ 0
+  pub source-on : offMesh (marked (mesh columns rows map)) s ≡ false
+  pub destination-on : offMesh (marked (mesh columns rows map)) d ≡ false
+  pub source-free : inBlock (marked (mesh columns rows map)) s ≡ false
+  pub destination-free : inBlock (marked (mesh columns rows map)) d ≡ false
+  pub off-rings : onARing (marked (mesh columns rows map)) d ≡ false
+
+module _ (columns rows : ℕ) (map : List ℕ) (s d : Place) where
+  passed-by : {n : ℕ} → (let w = marked (mesh columns rows map) in mapRefusals columns rows map (placeRefusals w s d (cond (onARing w d) 8 n)) ≡ 0) →
+      Passed columns rows map s d × (n ≡ 0)
+  passed-by h =
+      let w = marked (mesh columns rows map) in
+      let (m, i) = maps-pass columns rows map h in
+      let (a, b, j) = places-pass w s d i in
+      let (p, q) = or-none (offMesh w s) (offMesh w d) a in
+      let (x, y) = or-none (inBlock w s) (inBlock w d) b in
+      let (o, k) = skips (onARing w d) _ _ j in
+      (record { map-passes = m; source-on = p; destination-on = q; source-free = x; destination-free = y; off-rings = o }, k)
+
+  pub passed-8 : refusal1to8 columns rows map s d ≡ 0 → Passed columns rows map s d
+  unfolding refusal1to8
+  passed-8 h = passed-by h .0
+
+  pub passed-9 : requestRefusal columns rows map s d ≡ 0 → Passed columns rows map s d × (unserved (marked (mesh columns rows map)) s d ≡ false)
+  unfolding requestRefusal
+  passed-9 h =
+      let (p, k) = passed-by h in
+      (p, skips (unserved (marked (mesh columns rows map)) s d) _ _ k .0)
+
+  pub course-of : Passed columns rows map s d → Course (tripTo columns rows map d) (blocks (marked (mesh columns rows map)))
+  course-of p =
+      destination-course (marked (mesh columns rows map)) d (obstacles (accepted columns rows map (p .map-passes))) (p .destination-on) (p .destination-free) (p .off-rings)
+
+  pub served-of : Passed columns rows map s d → unserved (marked (mesh columns rows map)) s d ≡ false →
+      Served (tripTo columns rows map d) (s .row .0) (s .column .0)
+  served-of p e = source-served (marked (mesh columns rows map)) s d (p .source-on) (p .source-free) e
