@@ -1,0 +1,67 @@
+-- What Route answers and writes for a request that refusals 1 to 9 let pass. Assumes nothing.
+use mathlib.Core.Path.{_≡_, sym, _∙_}
+use mathlib.Core.Bool.{true, false, cond}
+use mathlib.Core.List.{List, _++_}
+use Prim.Native.Nat.{ℕ, suc, _≤_, _<_}
+use native.Mathlib.Decide.{decLe}
+use native.Mathlib.Omega.{arith}
+use borrow.Author.Tests.{lt-ltb, le-ltb}
+use lib.Dec.{ltb}
+use lib.ListN.{length, drop}
+use Rattle.mesh.specs.declared.Place.{Place}
+use Rattle.mesh.specs.declared.Routed.{Routed}
+use Rattle.mesh.specs.Mesh.{mesh, letters}
+use Rattle.mesh.specs.Blocks.{marked}
+use Rattle.mesh.specs.Refusals.{placeRefusals, unserved}
+use Rattle.mesh.specs.Operations.{Answer, returned, answer, written, routedAnswer, routeRefusal, Routes}
+use Rattle.mesh.proofs.Refusals.{others-next}
+use Rattle.judge_theory.proofs.Judged.{letters-length}
+use Rattle.demands.specs.Demand3.{hops, requestRefusal, RouteGiven}
+use Rattle.demands.proofs.Requests.{Passed, passed-9}
+
+returned-refused {ℓ} : {A : Type ℓ} {n k : ℕ} → returned n ≡ Answer.refused k → A
+returned-refused e = let z : _≡_ {A = ℕ} 0 1 = cc in absurd (omega arith)
+
+module _ (columns rows : ℕ) (map : List ℕ) (s d : Place) (out : List ℕ) where
+  -- only refusal 10 is left
+  only-room : requestRefusal columns rows map s d ≡ 0 → routeRefusal columns rows map s d out ≡ cond (ltb (length out) (length (hops columns rows map s d))) 10 0
+  unfolding routeRefusal placeRefusals
+  only-room clear =
+      let (p, e) = passed-9 columns rows map s d clear in
+      rw (others-next columns rows map _ (p .map-passes), p .source-on, p .destination-on, p .source-free, p .destination-free, p .off-rings, e)
+
+  module _ {r : Routed} {after : List ℕ} (clear : requestRefusal columns rows map s d ≡ 0) (does : Routes columns rows map s d out r after) where
+    short-ten : length out < length (hops columns rows map s d) → routeRefusal columns rows map s d out ≡ 10
+    short-ten h = only-room clear ∙ rw (lt-ltb _ _ h)
+
+    room-none : length (hops columns rows map s d) ≤ length out → routeRefusal columns rows map s d out ≡ 0
+    room-none h = only-room clear ∙ rw (le-ltb _ _ h)
+
+    answers-ten : length out < length (hops columns rows map s d) → routedAnswer r ≡ Answer.refused 10
+    unfolding answer
+    answers-ten h = does .answers ∙ rw (short-ten h)
+
+    answers-number : length (hops columns rows map s d) ≤ length out → routedAnswer r ≡ returned (length (hops columns rows map s d))
+    unfolding answer
+    answers-number h = does .answers ∙ rw (room-none h)
+
+    leaves-output : length out < length (hops columns rows map s d) → after ≡ out
+    unfolding written
+    leaves-output h = does .writes ∙ rw (short-ten h)
+
+    writes-letters : length (hops columns rows map s d) ≤ length out →
+        after ≡ letters (hops columns rows map s d) ++ drop (length (hops columns rows map s d)) out
+    unfolding written
+    writes-letters h = does .writes ∙ rw (room-none h, letters-length)
+
+    ten-short : Dec (length (hops columns rows map s d) ≤ length out) → routedAnswer r ≡ Answer.refused 10 → length out < length (hops columns rows map s d)
+    ten-short (yes h) e = returned-refused (sym (answers-number h) ∙ e)
+    ten-short (no h) e = omega arith
+
+    pub route-given : RouteGiven columns rows map s d out r after
+    route-given = record {
+      ten = (ten-short (decLe _ _), answers-ten);
+      unchanged = leaves-output;
+      reports = answers-number;
+      writes = writes-letters;
+    }
