@@ -1,2 +1,4 @@
 pub mod Requests
 pub mod Routes
+pub mod Steps
+pub mod Lists
