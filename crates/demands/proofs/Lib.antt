@@ -1,4 +1,6 @@
 pub mod Requests
 pub mod Routes
+pub mod Hops
 pub mod Steps
 pub mod Lists
+pub mod Theorems

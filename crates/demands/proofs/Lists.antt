@@ -8,7 +8,8 @@ use native.Mathlib.Decide.{decLe}
 use native.Mathlib.Omega.{arith}
 use borrow.Author.Tests.{eqb-true, eq-eqb}
 use lib.Dec.{eqb}
-use lib.ListN.{length, getD, drop}
+use lib.ListN.{length, getD, drop, drop-of-length-le}
+use lib.Seq.{drop-cons}
 use Rattle.mesh.specs.declared.Heading.{Heading}
 use Rattle.mesh.specs.declared.Heading.the-variants.{East as E}
 use Rattle.mesh.specs.declared.Moved.{Moved}
@@ -25,7 +26,8 @@ use Rattle.walk_theory.specs.Claims.{reached, Hops, OnTheWay}
 use Rattle.walk_theory.proofs.Theorems.{on-the-way}
 use Rattle.judge_theory.specs.Claims.{tripTo, startAt}
 use Rattle.demands.specs.Demand3.{Call, Keeps, Refused, lettersThenArrived, isSame, Calls, no-calls, same, other, sameAnswers, requestRefusal, hops, recordAt, Goes, no-more, letter-next, arrived-now, refused-now}
-use Rattle.demands.proofs.Requests.{Passed, passed-9, course-of, served-of}
+use Rattle.demands.proofs.Requests.{passed-9}
+use Rattle.demands.proofs.Hops.{way}
 use Rattle.demands.proofs.Steps.{hopped-refused, there-refused, refused-still, reached-next, letter-of, hops-answer, hops-record, arrived-answer, arrived-record}
 
 list-same : (xs ys : List ℕ) → sameList xs ys ≡ true → xs ≡ ys
@@ -56,13 +58,6 @@ module _ (columns rows : ℕ) (map : List ℕ) where
   keeps-same {p} {c} keeps e = let (i, j, k) = is-same c .0 e in rw (i, j, k) at keeps
 
   module _ (s d : Place) (clear : requestRefusal columns rows map s d ≡ 0) where
-    way : (k : ℕ) → k ≤ length (hops columns rows map s d) →
-        OnTheWay (tripTo columns rows map d) (hops columns rows map s d) k (reached k (tripTo columns rows map d) (startAt s))
-    unfolding hopsOf
-    way k h =
-        let (p, e) = passed-9 columns rows map s d clear in
-        on-the-way (course-of columns rows map s d p) (s .row .0) (s .column .0) (served-of columns rows map s d p e) _ (omega arith) k h
-
     -- A call with the same mesh and map, when k letters have been returned.
     module _ (k : ℕ) {p : Packet} {c : Call} (keeps : Keeps p c) (e : isSame columns rows map c ≡ true) (stands : p ≡ recordAt columns rows map s d k) where
       kept : MovesOn columns rows map (recordAt columns rows map s d k) (c .answer) (c .after)
@@ -70,24 +65,24 @@ module _ (columns rows : ℕ) (map : List ℕ) where
 
       module _ (h : k < length (hops columns rows map s d)) where
         here : Hops (tripTo columns rows map d) (reached k (tripTo columns rows map d) (startAt s)) (getD (hops columns rows map s d) k E)
-        here = way k (omega arith) .hops E h
+        here = way columns rows map s d clear k (omega arith) .hops E h
 
         letter-told : movedTold (c .answer) ≡ hopped (getD (letters (hops columns rows map s d)) k 0)
         letter-told =
-            hops-answer columns rows map s d (passed-9 columns rows map s d clear .0) _ (way k (omega arith) .place) kept here ∙ rw (letter-of _ k E h)
+            hops-answer columns rows map s d (passed-9 columns rows map s d clear .0) _ (way columns rows map s d clear k (omega arith) .place) kept here ∙ rw (letter-of _ k E h)
 
         moved-on : c .after ≡ recordAt columns rows map s d (suc k)
         moved-on =
-            hops-record columns rows map s d (passed-9 columns rows map s d clear .0) _ (way k (omega arith) .place) kept here ∙ rw (here .by-rule, reached-next (tripTo columns rows map d) k (startAt s))
+            hops-record columns rows map s d (passed-9 columns rows map s d clear .0) _ (way columns rows map s d clear k (omega arith) .place) kept here ∙ rw (here .by-rule, reached-next (tripTo columns rows map d) k (startAt s))
 
       module _ (h : k ≡ length (hops columns rows map s d)) where
         arrived-told : movedTold (c .answer) ≡ there
         arrived-told =
-            arrived-answer columns rows map s d (passed-9 columns rows map s d clear .0) _ (way k (omega arith) .place) kept (way k (omega arith) .ends h)
+            arrived-answer columns rows map s d (passed-9 columns rows map s d clear .0) _ (way columns rows map s d clear k (omega arith) .place) kept (way columns rows map s d clear k (omega arith) .ends h)
 
         stays-there : c .after ≡ recordAt columns rows map s d k
         stays-there =
-            arrived-record columns rows map s d (passed-9 columns rows map s d clear .0) _ (way k (omega arith) .place) kept (way k (omega arith) .ends h)
+            arrived-record columns rows map s d (passed-9 columns rows map s d clear .0) _ (way columns rows map s d clear k (omega arith) .place) kept (way columns rows map s d clear k (omega arith) .ends h)
 
     -- so it is not refused
     not-refused : (k : ℕ) {p : Packet} {c : Call} → k ≤ length (hops columns rows map s d) → Keeps p c → p ≡ recordAt columns rows map s d k → Refused c → isSame columns rows map c ≡ false
@@ -114,3 +109,15 @@ module _ (columns rows : ℕ) (map : List ℕ) where
     goes k h stands (other keeps ref calls) =
         let left = refused-still keeps (ref .1) ∙ stands in
         refused-now (not-refused k h keeps stands ref) ref left (goes k h left calls)
+
+    -- the answers of those with the same mesh and map
+    pub answers-from : {k : ℕ} {calls : List Call} → Goes columns rows map s d k calls →
+        sameAnswers columns rows map calls ≡ lettersThenArrived (length (sameAnswers columns rows map calls)) (drop k (hops columns rows map s d))
+    unfolding sameAnswers lettersThenArrived
+    answers-from no-more = refl
+    answers-from (letter-next {k} e h t r rest) =
+        rw (e, t, drop-cons (hops columns rows map s d) k E h, letter-of (hops columns rows map s d) k E h) (ap (λ ts. hopped (letter (getD (hops columns rows map s d) k E)) ∷ ts) (answers-from rest))
+    answers-from (arrived-now {k} e h t r rest) =
+        let ends = drop-of-length-le (hops columns rows map s d) {i = k} (omega arith) in
+        rw (e, t, ends) (ap (λ ts. there ∷ ts) (rw ends at (answers-from rest)))
+    answers-from (refused-now e ref r rest) = rw e (answers-from rest)

@@ -4,16 +4,18 @@ use mathlib.Core.Bool.{Bool, true, false, cond, _||_}
 use mathlib.Core.List.{List}
 use Prim.Native.Nat.{ℕ, suc}
 use native.Mathlib.Omega.{arith}
+use borrow.Author.Tests.{ltb-true, not-false}
+use lib.Dec.{ltb}
 use Rattle.mesh.specs.declared.Place.{Place}
-use Rattle.mesh.specs.Mesh.{Mesh, mesh}
+use Rattle.mesh.specs.Mesh.{Mesh, mesh, onMesh}
 use Rattle.mesh.specs.Blocks.{marked, blocks}
 use Rattle.mesh.specs.Refusals.{badSize, badLength, badByte, misplaced, offMesh, inBlock, onARing, unserved, mapRefusals, placeRefusals}
-use Rattle.mesh.proofs.Bools.{or-none}
-use Rattle.mesh.proofs.Refusals.{accepted}
+use Rattle.mesh.proofs.Bools.{and-both, or-none}
+use Rattle.mesh.proofs.Refusals.{others-next, accepted}
 use Rattle.block_theory.proofs.Theorems.{obstacles}
-use Rattle.walk_theory.specs.Course.{Course, Served}
+use Rattle.walk_theory.specs.Course.{Course, FreePlace, Served}
 use Rattle.walk_theory.proofs.Theorems.{destination-course, source-served}
-use Rattle.judge_theory.specs.Claims.{tripTo}
+use Rattle.judge_theory.specs.Claims.{refusalOf, tripTo}
 use Rattle.demands.specs.Demand3.{refusal1to8, requestRefusal}
 
 -- a test that does not apply
@@ -79,3 +81,14 @@ module _ (columns rows : ℕ) (map : List ℕ) (s d : Place) where
   pub served-of : Passed columns rows map s d → unserved (marked (mesh columns rows map)) s d ≡ false →
       Served (tripTo columns rows map d) (s .row .0) (s .column .0)
   served-of p e = source-served (marked (mesh columns rows map)) s d (p .source-on) (p .source-free) e
+
+  pub free-source : Passed columns rows map s d → FreePlace (tripTo columns rows map d) (s .row .0) (s .column .0)
+  unfolding offMesh onMesh inBlock
+  free-source p =
+      let (a, b) = and-both {a = ltb (s .row .0) rows} (not-false _ (p .source-on)) in
+      record { row = ltb-true _ _ a; column = ltb-true _ _ b; free = p .source-free }
+
+  pub judged-clear : Passed columns rows map s d → refusalOf columns rows map s d ≡ 0
+  unfolding placeRefusals
+  judged-clear p =
+      rw (others-next columns rows map _ (p .map-passes), p .source-on, p .destination-on, p .source-free, p .destination-free)

@@ -1,6 +1,6 @@
 -- What Route answers and writes for a request that refusals 1 to 9 let pass. Assumes nothing.
 use mathlib.Core.Path.{_≡_, sym, _∙_}
-use mathlib.Core.Bool.{true, false, cond}
+use mathlib.Core.Bool.{Bool, true, false, cond, _||_}
 use mathlib.Core.List.{List, _++_}
 use Prim.Native.Nat.{ℕ, suc, _≤_, _<_}
 use native.Mathlib.Decide.{decLe}
@@ -12,7 +12,7 @@ use Rattle.mesh.specs.declared.Place.{Place}
 use Rattle.mesh.specs.declared.Routed.{Routed}
 use Rattle.mesh.specs.Mesh.{mesh, letters}
 use Rattle.mesh.specs.Blocks.{marked}
-use Rattle.mesh.specs.Refusals.{placeRefusals, unserved}
+use Rattle.mesh.specs.Refusals.{badSize, badLength, badByte, misplaced, offMesh, inBlock, onARing, unserved, mapRefusals, placeRefusals}
 use Rattle.mesh.specs.Operations.{Answer, returned, answer, written, routedAnswer, routeRefusal, Routes}
 use Rattle.mesh.proofs.Refusals.{others-next}
 use Rattle.judge_theory.proofs.Judged.{letters-length}
@@ -21,6 +21,11 @@ use Rattle.demands.proofs.Requests.{Passed, passed-9}
 
 returned-refused {ℓ} : {A : Type ℓ} {n k : ℕ} → returned n ≡ Answer.refused k → A
 returned-refused e = let z : _≡_ {A = ℕ} 0 1 = cc in absurd (omega arith)
+
+-- a test before both of two numbers
+after-test : (b : Bool) (j n m : ℕ) {k : ℕ} → (n ≡ suc k → m ≡ suc k) → cond b j n ≡ suc k → cond b j m ≡ suc k
+after-test true j n m f h = h
+after-test false j n m f h = f h
 
 module _ (columns rows : ℕ) (map : List ℕ) (s d : Place) (out : List ℕ) where
   -- only refusal 10 is left
@@ -65,3 +70,22 @@ module _ (columns rows : ℕ) (map : List ℕ) (s d : Place) (out : List ℕ) wh
       reports = answers-number;
       writes = writes-letters;
     }
+
+  -- the first of refusals 1 to 9 that applies stands before 10
+  refused-before : {k : ℕ} → requestRefusal columns rows map s d ≡ suc k → routeRefusal columns rows map s d out ≡ suc k
+  unfolding requestRefusal routeRefusal mapRefusals placeRefusals
+  refused-before =
+      let w = marked (mesh columns rows map) in
+      after-test (badSize columns) _ _ _
+      (after-test (badSize rows) _ _ _
+      (after-test (badLength columns rows map) _ _ _
+      (after-test (badByte map) _ _ _
+      (after-test (misplaced columns rows map) _ _ _
+      (after-test (offMesh w s || offMesh w d) _ _ _
+      (after-test (inBlock w s || inBlock w d) _ _ _
+      (after-test (onARing w d) _ _ _ (after-test (unserved w s d) _ _ _ (λ h. absurd (omega arith))))))))))
+
+  pub refused-given : {k : ℕ} {r : Routed} {after : List ℕ} → requestRefusal columns rows map s d ≡ suc k → Routes columns rows map s d out r after →
+      (routedAnswer r ≡ Answer.refused (suc k)) × (after ≡ out)
+  unfolding answer written
+  refused-given h does = (does .answers ∙ rw (refused-before h), does .writes ∙ rw (refused-before h))
