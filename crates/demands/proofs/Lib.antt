@@ -1,6 +1,6 @@
 pub mod Requests
-pub mod Routes
 pub mod Hops
+pub mod Routes
 pub mod Steps
-pub mod Lists
+pub mod Calls
 pub mod Theorems

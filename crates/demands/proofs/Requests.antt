@@ -24,9 +24,9 @@ skips true k n h = absurd (omega arith)
 skips false k n h = (refl, h)
 
 -- refusals 1 to 5 do not apply, and none of the others
-maps-pass : (columns rows : ℕ) (map : List ℕ) {n : ℕ} → mapRefusals columns rows map n ≡ 0 → (mapRefusals columns rows map 0 ≡ 0) × (n ≡ 0)
+maps-pass : (columns rows : ℕ) (map : List ℕ) (n : ℕ) → mapRefusals columns rows map n ≡ 0 → (mapRefusals columns rows map 0 ≡ 0) × (n ≡ 0)
 unfolding mapRefusals
-maps-pass columns rows map h =
+maps-pass columns rows map n h =
     let (a, i) = skips (badSize columns) _ _ h in
     let (b, j) = skips (badSize rows) _ _ i in
     let (e, k) = skips (badLength columns rows map) _ _ j in
@@ -35,10 +35,10 @@ maps-pass columns rows map h =
     (rw (a, b, e, f, g), m)
 
 -- nor 6 and 7
-places-pass : (w : Mesh) (s d : Place) {n : ℕ} → placeRefusals w s d n ≡ 0 →
+places-pass : (w : Mesh) (s d : Place) (n : ℕ) → placeRefusals w s d n ≡ 0 →
     (offMesh w s || offMesh w d ≡ false) × (inBlock w s || inBlock w d ≡ false) × (n ≡ 0)
 unfolding placeRefusals
-places-pass w s d h =
+places-pass w s d n h =
     let (a, i) = skips (offMesh w s || offMesh w d) _ _ h in
     let (b, j) = skips (inBlock w s || inBlock w d) _ _ i in
     (a, b, j)
@@ -52,13 +52,19 @@ pub record Passed (columns rows : ℕ) (map : List ℕ) (s d : Place) : Type 0 w
   pub destination-free : inBlock (marked (mesh columns rows map)) d ≡ false
   pub off-rings : onARing (marked (mesh columns rows map)) d ≡ false
 
+-- and one that 9 lets pass too
+pub record Clear (columns rows : ℕ) (map : List ℕ) (s d : Place) : Type 0 where
+  pub passed : Passed columns rows map s d
+  pub served : unserved (marked (mesh columns rows map)) s d ≡ false
+
 module _ (columns rows : ℕ) (map : List ℕ) (s d : Place) where
-  passed-by : {n : ℕ} → (let w = marked (mesh columns rows map) in mapRefusals columns rows map (placeRefusals w s d (cond (onARing w d) 8 n)) ≡ 0) →
-      Passed columns rows map s d × (n ≡ 0)
-  passed-by h =
-      let w = marked (mesh columns rows map) in
-      let (m, i) = maps-pass columns rows map h in
-      let (a, b, j) = places-pass w s d i in
+  abbrev w : Mesh
+  w = marked (mesh columns rows map)
+
+  passed-by : (n : ℕ) → mapRefusals columns rows map (placeRefusals w s d (cond (onARing w d) 8 n)) ≡ 0 → Passed columns rows map s d × (n ≡ 0)
+  passed-by n h =
+      let (m, i) = maps-pass columns rows map _ h in
+      let (a, b, j) = places-pass w s d _ i in
       let (p, q) = or-none (offMesh w s) (offMesh w d) a in
       let (x, y) = or-none (inBlock w s) (inBlock w d) b in
       let (o, k) = skips (onARing w d) _ _ j in
@@ -66,29 +72,31 @@ module _ (columns rows : ℕ) (map : List ℕ) (s d : Place) where
 
   pub passed-8 : refusal1to8 columns rows map s d ≡ 0 → Passed columns rows map s d
   unfolding refusal1to8
-  passed-8 h = passed-by h .0
+  passed-8 h = passed-by _ h .0
 
-  pub passed-9 : requestRefusal columns rows map s d ≡ 0 → Passed columns rows map s d × (unserved (marked (mesh columns rows map)) s d ≡ false)
+  pub passed-9 : requestRefusal columns rows map s d ≡ 0 → Clear columns rows map s d
   unfolding requestRefusal
   passed-9 h =
-      let (p, k) = passed-by h in
-      (p, skips (unserved (marked (mesh columns rows map)) s d) _ _ k .0)
+      let (p, k) = passed-by _ h in
+      record { passed = p; served = skips (unserved w s d) _ _ k .0 }
 
-  pub course-of : Passed columns rows map s d → Course (tripTo columns rows map d) (blocks (marked (mesh columns rows map)))
-  course-of p =
+module _ {columns rows : ℕ} {map : List ℕ} {s d : Place} (p : Passed columns rows map s d) where
+  pub course-of : Course (tripTo columns rows map d) (blocks (marked (mesh columns rows map)))
+  course-of =
       destination-course (marked (mesh columns rows map)) d (obstacles (accepted columns rows map (p .map-passes))) (p .destination-on) (p .destination-free) (p .off-rings)
 
-  pub served-of : Passed columns rows map s d → unserved (marked (mesh columns rows map)) s d ≡ false →
-      Served (tripTo columns rows map d) (s .row .0) (s .column .0)
-  served-of p e = source-served (marked (mesh columns rows map)) s d (p .source-on) (p .source-free) e
-
-  pub free-source : Passed columns rows map s d → FreePlace (tripTo columns rows map d) (s .row .0) (s .column .0)
+  pub free-source : FreePlace (tripTo columns rows map d) (s .row .0) (s .column .0)
   unfolding offMesh onMesh inBlock
-  free-source p =
+  free-source =
       let (a, b) = and-both {a = ltb (s .row .0) rows} (not-false _ (p .source-on)) in
       record { row = ltb-true _ _ a; column = ltb-true _ _ b; free = p .source-free }
 
-  pub judged-clear : Passed columns rows map s d → refusalOf columns rows map s d ≡ 0
+  -- judging does not refuse it
+  pub judged-clear : refusalOf columns rows map s d ≡ 0
   unfolding placeRefusals
-  judged-clear p =
+  judged-clear =
       rw (others-next columns rows map _ (p .map-passes), p .source-on, p .destination-on, p .source-free, p .destination-free)
+
+pub served-of : {columns rows : ℕ} {map : List ℕ} {s d : Place} → Clear columns rows map s d → Served (tripTo columns rows map d) (s .row .0) (s .column .0)
+served-of {columns} {rows} {map} {s} {d} clear =
+    source-served (marked (mesh columns rows map)) s d (clear .passed .source-on) (clear .passed .source-free) (clear .served)

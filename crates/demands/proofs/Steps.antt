@@ -1,28 +1,24 @@
 -- One call of Move on. Assumes nothing.
-use mathlib.Core.Path.{_≡_, refl, ap, sym, _∙_}
+use mathlib.Core.Path.{_≡_, refl, sym, _∙_}
 use mathlib.Core.Bool.{Bool, true, false, not, cond, _&&_}
-use mathlib.Core.List.{List, [], _∷_}
-use mathlib.Core.Logic.{inl, inr}
-use Prim.Native.Nat.{ℕ, zero, suc, _≤_, _<_}
+use mathlib.Core.List.{List}
+use Prim.Native.Nat.{ℕ, zero, suc}
 use native.Mathlib.Omega.{arith}
-use borrow.Author.Tests.{eqb-true, lt-ltb}
-use lib.Dec.{eqb, ltb}
-use lib.ListN.{length, getD}
+use borrow.Author.Tests.{lt-ltb}
 use Rattle.mesh.specs.declared.Heading.{Heading}
 use Rattle.mesh.specs.declared.Moved.{Moved}
 use Rattle.mesh.specs.declared.Packet.{Packet}
 use Rattle.mesh.specs.declared.Place.{Place}
-use Rattle.mesh.specs.Mesh.{Mesh, mesh, onMesh, letter, letters}
-use Rattle.mesh.specs.Blocks.{marked, sameList}
-use Rattle.mesh.specs.Hops.{Trip, atDestination}
-use Rattle.mesh.specs.Walk.{At, moved, arrived, lawful, hopAt}
-use Rattle.mesh.specs.Packets.{isThere, movedPacket, packetAt}
+use Rattle.mesh.specs.Mesh.{Mesh, mesh, onMesh, letter}
+use Rattle.mesh.specs.Blocks.{marked}
+use Rattle.mesh.specs.Hops.{atDestination}
+use Rattle.mesh.specs.Walk.{At, moved, arrived}
+use Rattle.mesh.specs.Packets.{isThere, packetAt}
 use Rattle.mesh.specs.Refusals.{offMesh, inBlock, placeRefusals}
 use Rattle.mesh.specs.Moving.{Told, hopped, there, movedTold, moveRefusal, hopFrom, mayHop, told, recordAfter, MovesOn}
-use Rattle.mesh.proofs.Bools.{value, and-both}
 use Rattle.mesh.proofs.Refusals.{others-next}
 use Rattle.walk_theory.specs.Course.{FreePlace}
-use Rattle.walk_theory.specs.Claims.{reached, Hops}
+use Rattle.walk_theory.specs.Claims.{Hops}
 use Rattle.judge_theory.specs.Claims.{tripTo}
 use Rattle.demands.proofs.Requests.{Passed}
 
@@ -33,7 +29,7 @@ hopped-refused e = let z : _≡_ {A = ℕ} 0 1 = cc in absurd (omega arith)
 pub there-refused {ℓ} : {A : Type ℓ} {k : ℕ} → there ≡ Told.refused k → A
 there-refused e = let z : _≡_ {A = ℕ} 0 1 = cc in absurd (omega arith)
 
--- the record after a hop that is refused or not, by the two tests of it
+-- the record after a call that is refused for its hop, by the two tests
 still-by : (a b : Bool) (x : ℕ) (q p : Packet) {k : ℕ} → cond a there (cond b (hopped x) (Told.refused 9)) ≡ Told.refused k → cond (not a && b) q p ≡ p
 still-by true b x q p e = there-refused e
 still-by false true x q p e = hopped-refused e
@@ -50,20 +46,8 @@ pub refused-still : {columns rows : ℕ} {map : List ℕ} {p after : Packet} {m 
 refused-still {columns} {rows} {map} {p} keeps e =
     keeps .leaves ∙ still (moveRefusal columns rows map p) (marked (mesh columns rows map)) p (sym (keeps .answers) ∙ e)
 
--- one hop more
-pub reached-next : (w : Trip) (k : ℕ) (p : At) → reached (suc k) w p ≡ moved (hopAt w (reached k w p)) (reached k w p)
-unfolding reached
-reached-next w zero p = refl
-reached-next w (suc k) p = reached-next w k (moved (hopAt w p) p)
-
-pub letter-of : (hs : List Heading) (k : ℕ) (h : Heading) → k < length hs → getD (letters hs) k 0 ≡ letter (getD hs k h)
-unfolding letters
-letter-of [] k h i = absurd (omega arith)
-letter-of (g ∷ hs) zero h i = refl
-letter-of (g ∷ hs) (suc k) h i = letter-of hs k h (omega arith)
-
--- Of a packet at a, on its way to d.
-module _ (columns rows : ℕ) (map : List ℕ) (s d : Place) (passed : Passed columns rows map s d) (a : At) (free : FreePlace (tripTo columns rows map d) (a .row) (a .column)) where
+-- A call on the record of a packet at a free place a, on its way to d.
+module _ {columns rows : ℕ} {map : List ℕ} {s d : Place} (passed : Passed columns rows map s d) (a : At) (free : FreePlace (tripTo columns rows map d) (a .row) (a .column)) where
   -- refusals 1 to 8 do not apply
   none-applies : moveRefusal columns rows map (packetAt a d) ≡ 0
   unfolding moveRefusal placeRefusals offMesh inBlock onMesh

@@ -22,22 +22,24 @@ use Rattle.demands.specs.Demand3.{Call, isSame, refusal1to8, requestRefu
 use Rattle.demands.proofs.Requests.{passed-8, passed-9, course-of, free-source, judged-clear}
 use Rattle.demands.proofs.Routes.{route-given, refused-given}
 use Rattle.demands.proofs.Hops.{arrives, hops-by-rules, no-other-hops, way}
-use Rattle.demands.proofs.Lists.{is-same, goes, answers-from}
+use Rattle.demands.proofs.Calls.{is-same, goes, answers-from}
 
 module _ (columns rows : ℕ) (map : List ℕ) (s d : Place) where
   -- demand 3: of every route request to which none of refusals 1 to 9 applies
   pub demand-3 : requestRefusal columns rows map s d ≡ 0 → Demand3 columns rows map s d
   unfolding bound reached
-  demand-3 clear = record {
-    by-rules = hops-by-rules columns rows map s d clear;
-    no-others = no-other-hops columns rows map s d clear;
-    lawfully = arrives columns rows map s d clear .route;
-    on-the-way = λ k h. way columns rows map s d clear k h .place;
-    bounded = arrives columns rows map s d clear .hops;
-    routed = λ out r after does. route-given columns rows map s d out clear does;
-    moves = λ calls on. goes columns rows map s d clear 0 (omega arith) refl on;
-    answers = λ calls on. answers-from columns rows map s d clear (goes columns rows map s d clear 0 (omega arith) refl on);
-  }
+  demand-3 none =
+      let clear = passed-9 columns rows map s d none in
+      record {
+        by-rules = hops-by-rules clear;
+        no-others = no-other-hops clear;
+        lawfully = arrives clear .route;
+        on-the-way = λ k h. way clear k h .place;
+        bounded = arrives clear .hops;
+        routed = λ out r after does. route-given clear does;
+        moves = λ calls on. goes clear 0 (omega arith) refl on;
+        answers = λ calls on. answers-from (goes clear 0 (omega arith) refl on);
+      }
 
   -- the premise is about Route: where one of refusals 1 to 9 applies, Route answers the first that does and changes no byte, whatever its output holds
   pub else-refused : {k : ℕ} → requestRefusal columns rows map s d ≡ suc k → (out : List ℕ) (r : Routed) (after : List ℕ) →
@@ -47,17 +49,17 @@ module _ (columns rows : ℕ) (map : List ℕ) (s d : Place) where
   -- judging passes every route
   pub route-is-judged : requestRefusal columns rows map s d ≡ 0 →
       judgement columns rows map s d (letters (hops columns rows map s d)) ≡ passed (length (hops columns rows map s d))
-  route-is-judged clear =
-      judgement-of-route columns rows map s d (judged-clear columns rows map s d (passed-9 columns rows map s d clear .0)) (hops columns rows map s d) (arrives columns rows map s d clear .route)
+  route-is-judged none =
+      let clear = passed-9 columns rows map s d none in
+      judgement-of-route columns rows map s d (judged-clear (clear .passed)) (hops columns rows map s d) (arrives clear .route)
 
   -- refusal 9 comes to one condition: where none of refusals 1 to 8 applies, some hop by the rules is unlawful exactly if the condition holds
   pub refusal-9 : refusal1to8 columns rows map s d ≡ 0 →
       unserved (marked (mesh columns rows map)) s d ≡ true ↔ Fails (tripTo columns rows map d) (startAt s)
   unfolding unserved
-  refusal-9 clear =
-      let p = passed-8 columns rows map s d clear in
-      walks.refusal-9 (course-of columns rows map s d p) (s .row .0) (s .column .0) (free-source columns rows map s d p)
-      (walks.turns-west-no-edge (marked (mesh columns rows map)) _ _ _ _)
+  refusal-9 none =
+      let p = passed-8 columns rows map s d none in
+      walks.refusal-9 (course-of p) (s .row .0) (s .column .0) (free-source p) (walks.turns-west-no-edge (marked (mesh columns rows map)) _ _ _ _)
 
 -- the test of a call holds exactly if it was given the same mesh and map
 pub same-given : (columns rows : ℕ) (map : List ℕ) (c : Call) → isSame columns rows map c ≡ true ↔ ((c .columns ≡ columns) × (c .rows ≡ rows) × (c .map ≡ map))
