@@ -4,3 +4,4 @@ pub mod Routes
 pub mod Steps
 pub mod Calls
 pub mod Theorems
+pub mod Example

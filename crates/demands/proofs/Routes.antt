@@ -76,7 +76,7 @@ after-test true j n m f h = h
 after-test false j n m f h = f h
 
 module _ (columns rows : ℕ) (map : List ℕ) (s d : Place) (out : List ℕ) {k : ℕ} (e : requestRefusal columns rows map s d ≡ suc k) where
-  refused-before : routeRefusal columns rows map s d out ≡ suc k
+  pub refused-before : routeRefusal columns rows map s d out ≡ suc k
   unfolding requestRefusal routeRefusal mapRefusals placeRefusals
   refused-before =
       let w = marked (mesh columns rows map) in
