@@ -76,7 +76,7 @@ module _ (columns rows : ℕ) (map : List ℕ) where
         let w = marked (mesh columns rows map) in
         mapRefusals columns rows map (placeRefusals w s d (cond (onARing w d) 8 0))
 
-    -- the first of refusals 1 to 9, or 0; 9 by the condition that it comes to
+    -- the first of refusals 1 to 9 that applies to it, or 0; 9 by the condition that it comes to
     unfoldable pub requestRefusal : ℕ
     requestRefusal =
         let w = marked (mesh columns rows map) in
@@ -103,7 +103,7 @@ module _ (columns rows : ℕ) (map : List ℕ) where
       pub writes : length hops ≤ length out → after ≡ letters hops ++ drop (length hops) out
 
     -- How calls go on when k letters have been returned so far. With the same mesh and map: letter number k, counted from 0, and the record
-    -- after one hop more; when all have been returned, "arrived". With another: refused. In these two the record is as it stands.
+    -- shows one hop more; when all have been returned, "arrived". With another mesh or map: refused. In these two the record stays as it is.
     pub data Goes : ℕ → List Call → Type 0 where
       no-more : {k : ℕ} → Goes k []
       letter-next : {k : ℕ} {c : Call} {rest : List Call} →
@@ -120,7 +120,7 @@ module _ (columns rows : ℕ) (map : List ℕ) where
     pub record Demand3 : Type 0 where
       -- its hops are those of the hop rules, until rule 1 applies
       pub by-rules : ByRules (tripTo columns rows map d) (startAt s) hops
-      -- and no others, however many are looked at
+      -- and no others, whatever number above the bound is looked at
       pub no-others : (n : ℕ) → bound (tripTo columns rows map d) (blocks (marked (mesh columns rows map))) (s .row .0) (s .column .0) < n →
           walk n (tripTo columns rows map d) (startAt s) ≡ hops
       -- each stays on the mesh, enters no block, is no reversal and no forbidden turn; the last one ends at the destination
