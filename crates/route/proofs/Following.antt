@@ -15,7 +15,8 @@ use Rattle.mesh.specs.Moving.{hopFrom}
 use Rattle.mesh.proofs.Bools.{and-both}
 use Rattle.hops.specs.Lands.{Lands}
 use Rattle.hops.proofs.Landing.{stays-lands, stays-on}
-use Rattle.route.specs.Following.{Leads, rest, OnWay, Going, over, Follows}
+use Rattle.buffers.specs.Over.{over}
+use Rattle.route.specs.Following.{Leads, rest, OnWay, Going, Follows}
 
 -- the first hop of a walk that leads to the destination
 pub record Hops (m n : ℕ) (w : Trip) (p : At) : Type 0 where

@@ -27,10 +27,11 @@ use Rattle.block_theory.proofs.Area.{detours-bounded}
 use Rattle.walk_theory.proofs.Theorems.{destination-course, source-served, request-arrives, same-walk}
 use Rattle.maps.specs.Sized.{Sized}
 use Rattle.places.proofs.Placed.{not-off, on-row, on-column}
-use Rattle.route.specs.Following.{hopLimit, rest, OnWay, Going, over}
+use Rattle.buffers.specs.Over.{over}
+use Rattle.route.specs.Following.{hopLimit, rest, OnWay, Going}
 use Rattle.route.specs.Marked.{requestRefusals, refusalOn, RoutesOn}
 use Rattle.route.proofs.Requests.{Request, request-next}
-use Rattle.route.proofs.Over.{over-all}
+use Rattle.buffers.proofs.Over.{over-all}
 
 abbrev pub start : Place → Place → Packet
 start s d = record { place = s; last = none; destination = d }

@@ -1,7 +1,7 @@
 -- What the two modes ask and promise: the rest of a walk, its letters from index made on. Assumes nothing.
 use mathlib.Core.Path.{_≡_}
 use mathlib.Core.Bool.{true}
-use mathlib.Core.List.{List, [], _∷_}
+use mathlib.Core.List.{List, []}
 use Prim.Native.Nat.{ℕ, _+_, _≤_, _<_}
 use lib.ListN.{length, set}
 use Rattle.mesh.specs.declared.Heading.{Heading}
@@ -10,6 +10,7 @@ use Rattle.mesh.specs.Mesh.{Mesh, mesh, letters}
 use Rattle.mesh.specs.Hops.{Trip}
 use Rattle.mesh.specs.Walk.{At, lawfulRoute, walk}
 use Rattle.mesh.specs.Packets.{at, tripOf}
+use Rattle.buffers.specs.Over.{over}
 use Rattle.maps.specs.Sized.{Sized}
 
 -- fewer than n hops by the rules lead lawfully to the destination
@@ -37,11 +38,6 @@ pub record Going (columns rows : ℕ) (marks : List ℕ) (p : Packet) (out : Lis
   pub on-way : OnWay columns rows marks p left
   pub room : made + length (rest left (mesh columns rows marks) p) ≤ length out
   pub few : made + left ≤ hopLimit
-
--- ys stand in xs from index i on
-unfoldable pub over : List ℕ → ℕ → List ℕ → List ℕ
-over xs i [] = xs
-over xs i (y ∷ ys) = over (set xs i y) (i + 1) ys
 
 -- the hops are counted and their letters written
 pub record Follows (w : Mesh) (p : Packet) (out : List ℕ) (made left x : ℕ) (after : List ℕ) : Type 0 where

@@ -7,7 +7,7 @@ use native.Mathlib.Numerals.{add-one}
 use native.Mathlib.Omega.{arith}
 use lib.ListN.{length, take, drop, set, length-set, take-append-drop}
 use lib.Seq.{take-suc-set, drop-set-lt}
-use Rattle.route.specs.Following.{over}
+use Rattle.buffers.specs.Over.{over}
 
 over-from : (xs : List ℕ) (i : ℕ) (ys : List ℕ) → i + length ys ≤ length xs → over xs i ys ≡ take i xs ++ (ys ++ drop (i + length ys) xs)
 unfolding over

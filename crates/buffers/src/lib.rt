@@ -1,0 +1,1 @@
+// Bytes written into a lent buffer, one after another.

@@ -1,0 +1,1 @@
+// The lines that a sheet's answers are printed as.
