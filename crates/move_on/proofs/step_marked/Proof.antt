@@ -1,51 +1,42 @@
+-- The places, the ring, "arrived", then the hop. Assumes nothing.
 use borrow.Author.Needs.{needs}
+use mathlib.Core.Path.{sym, _∙_}
+use Rattle.places.proofs.Placed.{places-none, places-clear, places-refused, on-not-off, free-not-in, on-row, on-column}
+use Rattle.move_on.specs.Marked.{refusalOn}
+use Rattle.move_on.proofs.Moves.{moves-refused, moves-ring, moves-arrived, moves-next}
 use Rattle.move_on.proofs.step_marked.Statement.{statement}
 use Rattle.move_on.proofs.step_marked.Tie as tie
-use Rattle.move_on.proofs.step_marked.Reads as reads
-use Rattle.move_on.proofs.step_marked.Lts as lts
-use Rattle.hops.proofs.is_there.Reads as is-there-reads
-use Rattle.move_on.proofs.make_hop.Reads as make-hop-reads
-use Rattle.places.proofs.check_places.Reads as check-places-reads
-use Rattle.places.proofs.is_on_ring.Reads as is-on-ring-reads
 
--- src/lib.rt:53:9
 check-places-requires : tie.Need-check-places-requires
 check-places-requires c κs = search needs
 
--- src/lib.rt:54:29
 enum-known-checked : tie.Need-enum-known-checked
 enum-known-checked c = search needs
 
--- src/lib.rt:55:9
 returns : tie.Need-returns
-returns c = ?
+unfolding refusalOn
+returns c = moves-refused _ _ _ (places-refused _ _ _ _ (c .before .checked .given .1) (c .before .before .before .check-places .ensures))
 
 enum-told : tie.Need-enum-told
 enum-told c = search needs
 
--- src/lib.rt:60:8
 is-on-ring-requires : tie.Need-is-on-ring-requires
-is-on-ring-requires c κs = ?
+is-on-ring-requires c κs = let p = places-clear _ _ _ (c .enum-told .given .1) (c .before .before .check-places .ensures) in (c .before .before .before .before .before .before .pre .0, c .before .before .before .before .before .before .pre .1, on-not-off _ _ (p .destination-on), free-not-in _ _ (p .destination-free))
 
--- src/lib.rt:61:9
 returns-2 : tie.Need-returns-2
-returns-2 c = ?
+returns-2 c = moves-ring _ _ (places-none _ _ _ (c .before .before .enum-told .given .1) (c .before .before .before .before .check-places .ensures)) (sym (c .before .is-on-ring .ensures) ∙ c .if1 .taken)
 
--- src/lib.rt:66:8
 is-there-requires : tie.Need-is-there-requires
 is-there-requires c κs = search needs
 
--- src/lib.rt:67:9
 returns-3 : tie.Need-returns-3
-returns-3 c = ?
+returns-3 c = moves-arrived _ _ (places-none _ _ _ (c .before .before .before .before .enum-told .given .1) (c .before .before .before .before .before .before .check-places .ensures)) (sym (c .before .before .before .is-on-ring .ensures) ∙ c .before .before .if1 .left) (sym (c .before .is-there .ensures) ∙ c .if2 .taken)
 
--- src/lib.rt:72:5
 make-hop-requires : tie.Need-make-hop-requires
-make-hop-requires c κs = ?
+make-hop-requires c κs = let p = places-clear _ _ _ (c .before .before .before .before .enum-told .given .1) (c .before .before .before .before .before .before .check-places .ensures) in (c .before .before .before .before .before .before .before .before .before .before .pre .0, on-row _ _ _ (p .source-on), on-column _ _ _ (p .source-on), sym (c .before .is-there .ensures) ∙ c .if2 .left)
 
--- src/lib.rt:47:1
 returns-4 : tie.Need-returns-4
-returns-4 c = ?
+returns-4 c = moves-next _ _ (places-none _ _ _ (c .before .before .before .before .before .enum-told .given .1) (c .before .before .before .before .before .before .before .check-places .ensures)) (sym (c .before .before .before .before .is-on-ring .ensures) ∙ c .before .before .before .if1 .left) (c .make-hop .ensures)
 
 pub step-marked-spec : {M : Type 1} → statement M
 step-marked-spec =
