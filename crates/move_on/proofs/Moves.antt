@@ -1,5 +1,5 @@
 -- The cases of "Move on". Assumes nothing.
-use mathlib.Core.Path.{_≡_, sym, ap, _∙_}
+use mathlib.Core.Path.{_≡_, sym, _∙_}
 use mathlib.Core.Logic.{inl, inr}
 use mathlib.Core.Bool.{true, false, cond}
 use mathlib.Core.List.{List}
@@ -18,12 +18,12 @@ use Rattle.mesh.specs.declared.Moved.the-variants as moves
 use Rattle.mesh.specs.declared.Packet.{Packet}
 use Rattle.mesh.specs.Mesh.{Mesh, mesh}
 use Rattle.mesh.specs.Blocks.{bad, marked, blocks}
-use Rattle.mesh.specs.Walk.{stays, lawful, hopAt}
+use Rattle.mesh.specs.Walk.{lawful, hopAt}
 use Rattle.mesh.specs.Packets.{at, tripOf, isThere, movedPacket}
 use Rattle.mesh.specs.Refusals.{number, mapRefusals, placeRefusals, onARing}
 use Rattle.mesh.specs.Judging.{faultNumber, testedNumber, letterFault}
 use Rattle.mesh.specs.Moving.{movedTold, moveRefusal, hopFrom, mayHop, told, recordAfter, MovesOn}
-use Rattle.mesh.proofs.Bools.{true-false, value, and-both}
+use Rattle.mesh.proofs.Bools.{value, and-both}
 use Rattle.mesh.proofs.Refusals.{number-some, accepted, others-next}
 use Rattle.block_theory.specs.Obstacles.{Obstacles}
 use Rattle.block_theory.proofs.Theorems.{obstacles}
