@@ -24,21 +24,21 @@ use places::is_on_ring;
 use rules::hop;
 
 // The hop by the rules from where the packet is, or refusal 9.
-fn make_hop(columns: u32, rows: u32, marks: &[u8], p: Packet) -> Stepped
-    requires { ⌜ Sized columns rows (now marks) × (p .place .row .0 < rows) × (p .place .column .0 < columns) × (isThere p ≡ false) ⌝ }
-    ensures { λ x. ⌜ Moves 0 (mesh columns rows (now (marks .entry))) p (x .moved) (x .packet) ⌝ }
+fn make_hop(columns: u32, rows: u32, marks: &[u8], before: Packet) -> Stepped
+    requires { ⌜ Sized columns rows (now marks) × (before .place .row .0 < rows) × (before .place .column .0 < columns) × (isThere before ≡ false) ⌝ }
+    ensures { λ x. ⌜ Moves 0 (mesh columns rows (now (marks .entry))) before (x .moved) (x .packet) ⌝ }
 {
-    let h = hop(columns, rows, marks, p);
-    let tested = test_hop(columns, rows, marks, p, h);
+    let h = hop(columns, rows, marks, before);
+    let tested = test_hop(columns, rows, marks, before, h);
     if let Tested::Lawful = tested {
-        let after = moved(p, h);
+        let after = moved(before, h);
         return Stepped {
             packet: after,
             moved: Moved::Hop(h),
         };
     }
     Stepped {
-        packet: p,
+        packet: before,
         moved: Moved::Refused(Refusal::Unlawful),
     }
 }
@@ -57,13 +57,15 @@ fn step_marked(columns: u32, rows: u32, marks: &[u8], p: Packet) -> Stepped
             moved: Moved::Refused(why),
         };
     }
-    if is_on_ring(columns, rows, marks, destination) {
+    let on_ring = is_on_ring(columns, rows, marks, destination);
+    let there = is_there(p);
+    if on_ring {
         return Stepped {
             packet: p,
             moved: Moved::Refused(Refusal::OnRing),
         };
     }
-    if is_there(p) {
+    if there {
         return Stepped {
             packet: p,
             moved: Moved::Arrived,
