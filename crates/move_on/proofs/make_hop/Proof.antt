@@ -14,7 +14,7 @@ enum-told : tie.Need-enum-told
 enum-told c = search needs
 
 moved-requires : tie.Need-moved-requires
-moved-requires c κs = hop-lands _ _ (c .before .before .before .before .before .pre .3) (c .before .before .before .hop .ensures) (c .before .before .test-hop .ensures) (c .enum-told .given .1) (c .before .before .before .before .before .pre .1) (c .before .before .before .before .before .pre .2) (c .before .before .before .before .before .pre .0 .few-columns) (c .before .before .before .before .before .pre .0 .few-rows)
+moved-requires c κs = let (size, row, column, away) = c .before .before .before .before .before .pre in hop-lands _ _ away (c .before .before .before .hop .ensures) (c .before .before .test-hop .ensures) (c .enum-told .given .1) row column (size .few-columns) (size .few-rows)
 
 returns : tie.Need-returns
 returns c = moves-hop _ _ (c .before .before .before .before .before .before .pre .3) (c .before .before .before .before .hop .ensures) (c .before .before .before .test-hop .ensures) (c .before .enum-told .given .1) (c .moved .ensures)
