@@ -1,0 +1,114 @@
+-- The cases of "Route" on a marking. Assumes nothing.
+use mathlib.Core.Path.{_≡_, refl, sym, ap, _∙_}
+use mathlib.Core.Bool.{true, false, cond}
+use mathlib.Core.List.{List, [], _∷_}
+use Prim.Native.Nat.{ℕ, suc, _+_, _*_, _≤_, _<_}
+use native.Mathlib.Nat.{zero-add, mul-comm}
+use native.Mathlib.Omega.{arith}
+use borrow.Author.Tests.{leb-true, leb-false, lt-ltb, le-ltb}
+use lib.Dec.{ltb, leb}
+use lib.ListN.{length}
+use Rattle.mesh.specs.declared.Heading.{Heading}
+use Rattle.mesh.specs.declared.Refusal.{Refusal}
+use Rattle.mesh.specs.declared.Refusal.the-variants.{Room}
+use Rattle.mesh.specs.declared.Routed.the-variants.{Hops, Refused}
+use Rattle.mesh.specs.declared.Last.the-variants.{None as none}
+use Rattle.mesh.specs.declared.Packet.{Packet}
+use Rattle.mesh.specs.declared.Place.{Place}
+use Rattle.mesh.specs.Mesh.{Mesh, mesh, letters}
+use Rattle.mesh.specs.Blocks.{bad, blocks}
+use Rattle.mesh.specs.Walk.{tripOn, distance, bound}
+use Rattle.mesh.specs.Refusals.{number}
+use Rattle.mesh.specs.Operations.{routedAnswer, answer, written, hopsOf}
+use Rattle.mesh.proofs.Index.{few-nodes}
+use Rattle.mesh.proofs.Answers.{answer-refused, written-refused}
+use Rattle.block_theory.specs.Obstacles.{Obstacles}
+use Rattle.block_theory.proofs.Area.{detours-bounded}
+use Rattle.walk_theory.proofs.Theorems.{destination-course, source-served, request-arrives, same-walk}
+use Rattle.maps.specs.Sized.{Sized}
+use Rattle.places.proofs.Placed.{not-off, on-row, on-column}
+use Rattle.route.specs.Following.{hopLimit, rest, OnWay, Going, over}
+use Rattle.route.specs.Marked.{requestRefusals, refusalOn, RoutesOn}
+use Rattle.route.proofs.Requests.{Request, request-next}
+use Rattle.route.proofs.Over.{over-all}
+
+abbrev pub start : Place → Place → Packet
+start s d = record { place = s; last = none; destination = d }
+
+distance-few : (a b : ℕ) → a < 64 → b < 64 → distance a b ≤ 63
+unfolding distance
+distance-few a b p q = omega arith
+
+module _ (columns rows : ℕ) (marks : List ℕ) (s d : Place) (sized : Sized columns rows marks) (o : Obstacles columns rows (bad (mesh columns rows marks)) (blocks (mesh columns rows marks))) (q : Request (mesh columns rows marks) s d) where
+  -- no route is longer than the limit
+  bound-few : bound (tripOn (mesh columns rows marks) (d .row .0) (d .column .0)) (blocks (mesh columns rows marks)) (s .row .0) (s .column .0) < hopLimit
+  unfolding bound
+  bound-few =
+      let w = mesh columns rows marks in
+      let on-s = not-off w s (q .source-on) in
+      let on-d = not-off w d (q .destination-on) in
+      let few = few-nodes columns rows (sized .few-columns) (sized .few-rows) in
+      let area : rows * columns ≤ 4096 = rw (mul-comm rows columns) few in
+      let r = distance-few (s .row .0) (d .row .0) (omega (arith, on-row w _ _ on-s, sized .few-rows)) (omega (arith, on-row w _ _ on-d, sized .few-rows)) in
+      let c = distance-few (s .column .0) (d .column .0) (omega (arith, on-column w _ _ on-s, sized .few-columns)) (omega (arith, on-column w _ _ on-d, sized .few-columns)) in
+      omega (arith, detours-bounded o)
+
+  -- the hops of the request, as the two modes follow them
+  pub rest-hops : rest hopLimit (mesh columns rows marks) (start s d) ≡ hopsOf (mesh columns rows marks) s d
+  unfolding hopsOf
+  rest-hops =
+      let w = mesh columns rows marks in
+      same-walk (destination-course w d o (q .destination-on) (q .destination-free) (q .off-rings)) _ _
+      (source-served w s d (q .source-on) (q .source-free) (q .served)) hopLimit _ bound-few (omega arith)
+
+  pub starts : OnWay columns rows marks (start s d) hopLimit
+  starts =
+      let w = mesh columns rows marks in
+      let on = not-off w s (q .source-on) in
+      let arrives = request-arrives w s d o (q .source-on) (q .destination-on) (q .source-free) (q .destination-free) (q .off-rings) (q .served) in
+      record {
+        sized = sized;
+        row = on-row w _ _ on;
+        column = on-column w _ _ on;
+        leads = record { lawfully = rw rest-hops (arrives .route); enough = rw rest-hops (omega (arith, arrives .hops, bound-few)) };
+      }
+
+pub going-start : {columns rows : ℕ} {marks : List ℕ} {p : Packet} (out : List ℕ) → OnWay columns rows marks p hopLimit → leb (length (rest hopLimit (mesh columns rows marks) p)) (length out) ≡ true → Going columns rows marks p out 0 hopLimit
+going-start {columns} {rows} {marks} {p} out g h =
+    record {
+      on-way = g;
+      room = omega (arith, leb-true (length (rest hopLimit (mesh columns rows marks) p)) (length out) h);
+      few = omega arith;
+    }
+
+letters-length : (hs : List Heading) → length (letters hs) ≡ length hs
+unfolding letters
+letters-length [] = refl
+letters-length (h ∷ hs) = ap suc (letters-length hs)
+
+module _ (w : Mesh) (s d : Place) (out : List ℕ) where
+  refused : (why : Refusal) → refusalOn w s d out ≡ number why → RoutesOn w s d out (Refused why) out
+  unfolding routedAnswer
+  refused why e =
+      record { answers = rw e (sym (answer-refused why _)); writes = rw e (sym (written-refused why _ _)) }
+
+  pub request-refused-routed : (why : Refusal) → ((others : ℕ) → requestRefusals w s d others ≡ number why) → RoutesOn w s d out (Refused why) out
+  unfolding refusalOn
+  request-refused-routed why e = refused why (e _)
+
+  module _ (clear : requestRefusals w s d 0 ≡ 0) {hs : List Heading} (is-hs : hs ≡ hopsOf w s d) where
+    pub room-refused : leb (length hs) (length out) ≡ false → RoutesOn w s d out (Refused Room) out
+    unfolding refusalOn number
+    room-refused h =
+        let short : length out < length (hopsOf w s d) = rw (← is-hs) (leb-false (length hs) (length out) h) in
+        refused Room (request-next w s d clear _ ∙ ap (λ b. cond b 10 0) (lt-ltb _ _ short))
+
+    pub routed : {n : ℕ} {after : List ℕ} → leb (length hs) (length out) ≡ true → n ≡ 0 + length hs → after ≡ over out 0 (letters hs) → RoutesOn w s d out (Hops n) after
+    unfolding refusalOn routedAnswer answer written
+    routed h counts writes =
+        let fits : length (hopsOf w s d) ≤ length out = rw (← is-hs) (leb-true (length hs) (length out) h) in
+        let none = request-next w s d clear (cond (ltb (length out) (length (hopsOf w s d))) 10 0) ∙ ap (λ b. cond b 10 0) (le-ltb _ _ fits) in
+        record {
+          answers = rw (none, counts, is-hs, zero-add);
+          writes = rw (none, writes, is-hs) (over-all out (letters (hopsOf w s d)) (rw (letters-length (hopsOf w s d)) fits));
+        }

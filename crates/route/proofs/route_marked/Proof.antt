@@ -1,0 +1,49 @@
+-- The refusals in order, then the walk. Assumes nothing.
+use borrow.Author.Needs.{needs}
+use mathlib.Core.Path.{sym, _∙_}
+use borrow.Author.Tests.{not-true, not-false}
+use Rattle.route.proofs.Requests.{request-refused, request-none, request}
+use Rattle.route.proofs.Routed.{starts, rest-hops, going-start, request-refused-routed, room-refused, routed}
+use Rattle.route.proofs.route_marked.Statement.{statement}
+use Rattle.route.proofs.route_marked.Tie as tie
+
+check-request-requires : tie.Need-check-request-requires
+check-request-requires c κs = search needs
+
+enum-known-checked : tie.Need-enum-known-checked
+enum-known-checked c = search needs
+
+returns : tie.Need-returns
+returns c = request-refused-routed _ _ _ _ _ (λ others. request-refused _ _ _ others (c .before .checked .given .1) (c .before .before .before .check-request .ensures))
+
+enum-told : tie.Need-enum-told
+enum-told c = search needs
+
+has-room-requires : tie.Need-has-room-requires
+has-room-requires c κs = starts _ _ _ _ _ (c .before .before .before .before .before .pre .0) (c .before .before .before .before .before .pre .1) (request _ _ _ (request-none _ _ _ (c .enum-told .given .1) (c .before .before .check-request .ensures)))
+
+returns-2 : tie.Need-returns-2
+returns-2 c = let clear = request-none _ _ _ (c .before .before .enum-told .given .1) (c .before .before .before .before .check-request .ensures) in room-refused _ _ _ _ clear (rest-hops _ _ _ _ _ (c .before .before .before .before .before .before .before .pre .0) (c .before .before .before .before .before .before .before .pre .1) (request _ _ _ clear)) (sym (c .before .has-room .ensures) ∙ not-true _ (c .if1 .taken))
+
+straight-requires : tie.Need-straight-requires
+straight-requires c κs = going-start _ (starts _ _ _ _ _ (c .before .before .before .before .before .before .before .before .pre .0) (c .before .before .before .before .before .before .before .before .pre .1) (request _ _ _ (request-none _ _ _ (c .before .before .before .enum-told .given .1) (c .before .before .before .before .before .check-request .ensures)))) (sym (c .before .before .has-room .ensures) ∙ not-false _ (c .before .if1 .left))
+
+same-length : tie.Need-same-length
+same-length c = search needs
+
+returns-3 : tie.Need-returns-3
+returns-3 c = let clear = request-none _ _ _ (c .before .before .before .before .before .before .enum-told .given .1) (c .before .before .before .before .before .before .before .before .check-request .ensures) in routed _ _ _ _ clear (rest-hops _ _ _ _ _ (c .before .before .before .before .before .before .before .before .before .before .before .pre .0) (c .before .before .before .before .before .before .before .before .before .before .before .pre .1) (request _ _ _ clear)) (sym (c .before .before .before .before .before .has-room .ensures) ∙ not-false _ (c .before .before .before .before .if1 .left)) (c .before .before .straight .ensures .counts) (c .before .before .straight .ensures .writes)
+
+pub route-marked-spec : {M : Type 1} → statement M
+route-marked-spec =
+    tie.close
+    (tie.spec
+    check-request-requires
+    enum-known-checked
+    returns
+    enum-told
+    has-room-requires
+    returns-2
+    straight-requires
+    same-length
+    returns-3)

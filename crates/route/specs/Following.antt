@@ -1,0 +1,49 @@
+-- What the two modes ask and promise: the rest of a walk, its letters from index made on. Assumes nothing.
+use mathlib.Core.Path.{_≡_}
+use mathlib.Core.Bool.{true}
+use mathlib.Core.List.{List, [], _∷_}
+use Prim.Native.Nat.{ℕ, _+_, _≤_, _<_}
+use lib.ListN.{length, set}
+use Rattle.mesh.specs.declared.Heading.{Heading}
+use Rattle.mesh.specs.declared.Packet.{Packet}
+use Rattle.mesh.specs.Mesh.{Mesh, mesh, letters}
+use Rattle.mesh.specs.Hops.{Trip}
+use Rattle.mesh.specs.Walk.{At, lawfulRoute, walk}
+use Rattle.mesh.specs.Packets.{at, tripOf}
+use Rattle.maps.specs.Sized.{Sized}
+
+-- fewer than n hops by the rules lead lawfully to the destination
+pub record Leads (n : ℕ) (w : Trip) (p : At) : Type 0 where
+  pub lawfully : lawfulRoute w p (walk n w p) ≡ true
+  pub enough : length (walk n w p) < n
+
+-- the hops that are left
+abbrev pub rest : ℕ → Mesh → Packet → List Heading
+rest left w p = walk left (tripOf w p) (at p)
+
+-- more hops than any route has, on any mesh
+abbrev pub hopLimit : ℕ
+hopLimit = 24705
+
+-- the packet is on the mesh, and fewer hops than left lead to its destination
+pub record OnWay (columns rows : ℕ) (marks : List ℕ) (p : Packet) (left : ℕ) : Type 0 where
+  pub sized : Sized columns rows marks
+  pub row : p .place .row .0 < rows
+  pub column : p .place .column .0 < columns
+  pub leads : Leads left (tripOf (mesh columns rows marks) p) (at p)
+
+-- and their letters have room from index made on
+pub record Going (columns rows : ℕ) (marks : List ℕ) (p : Packet) (out : List ℕ) (made left : ℕ) : Type 0 where
+  pub on-way : OnWay columns rows marks p left
+  pub room : made + length (rest left (mesh columns rows marks) p) ≤ length out
+  pub few : made + left ≤ hopLimit
+
+-- ys stand in xs from index i on
+unfoldable pub over : List ℕ → ℕ → List ℕ → List ℕ
+over xs i [] = xs
+over xs i (y ∷ ys) = over (set xs i y) (i + 1) ys
+
+-- the hops are counted and their letters written
+pub record Follows (w : Mesh) (p : Packet) (out : List ℕ) (made left x : ℕ) (after : List ℕ) : Type 0 where
+  pub counts : x ≡ made + length (rest left w p)
+  pub writes : after ≡ over out made (letters (rest left w p))

@@ -1,0 +1,182 @@
+// The operation "Route". A route is followed in two modes that hand over to each other.
+ghost use mathlib.Core.Path.{_≡_};
+ghost use mathlib.Core.Bool.{false};
+ghost use lib.Dec.{eqb, leb};
+ghost use lib.ListN.{length, set};
+ghost use Rattle.mesh.specs.Mesh.{mesh, letter};
+ghost use Rattle.mesh.specs.Blocks.{bad, blocks};
+ghost use Rattle.mesh.specs.Packets.{isThere, movedPacket};
+ghost use Rattle.mesh.specs.Moving.{hopFrom};
+ghost use Rattle.mesh.specs.Refusals.{checkedNumber};
+ghost use Rattle.mesh.specs.Operations.{Routes};
+ghost use Rattle.block_theory.specs.Obstacles.{Obstacles};
+ghost use Rattle.maps.specs.Sized.{Sized};
+ghost use Rattle.route.specs.Following.{hopLimit, rest, OnWay, Going, Follows};
+ghost use Rattle.route.specs.Marked.{requestRefusals, RoutesOn};
+use hops::is_there;
+use hops::moved;
+use marking::mark_map;
+use mesh::Checked;
+use mesh::Last;
+use mesh::Packet;
+use mesh::Place;
+use mesh::Refusal;
+use mesh::Routed;
+use places::check_places;
+use places::is_on_ring;
+use rules::hop;
+use rules::is_unserved;
+use turns::letter;
+
+// Whether the packet is in its destination's row.
+fn is_in_row(p: Packet) -> bool
+    ensures { λ x. ⌜ x ≡ eqb (p .place .row .0) (p .destination .row .0) ⌝ }
+{
+    let place = p.place;
+    let destination = p.destination;
+    let r = place.row;
+    let to_r = destination.row;
+    r.0 == to_r.0
+}
+
+// One hop by the rules: its letter is written at index made.
+fn advance(
+    columns: u32,
+    rows: u32,
+    marks: &[u8],
+    p: Packet,
+    out: &mut [u8],
+    made: u32,
+    left: u32,
+) -> Packet
+    requires { ⌜ Going columns rows (now marks) p (now out) made left × (isThere p ≡ false) ⌝ }
+    ensures { λ x. ⌜ (x ≡ movedPacket (hopFrom (mesh columns rows (now (marks .entry))) p) p) × (now (out .exit) ≡ set (now (out .entry)) made (letter (hopFrom (mesh columns rows (now (marks .entry))) p))) ⌝ }
+{
+    let h = hop(columns, rows, marks, p);
+    out[made as usize] = letter(h);
+    moved(p, h)
+}
+
+// Straight travel. Where the packet is stopped in its destination's row, it leaves the row: it goes round a block.
+fn straight(
+    columns: u32,
+    rows: u32,
+    marks: &[u8],
+    p: Packet,
+    out: &mut [u8],
+    made: u32,
+    left: u32,
+) -> u32
+    requires { ⌜ Going columns rows (now marks) p (now out) made left ⌝ }
+    ensures { λ x. ⌜ Follows (mesh columns rows (now (marks .entry))) p (now (out .entry)) made left x (now (out .exit)) ⌝ }
+{
+    if is_there(p) {
+        return made;
+    }
+    let q = advance(columns, rows, marks, p, out, made, left);
+    if is_in_row(p) {
+        if !is_in_row(q) {
+            return round_block(columns, rows, marks, q, out, made + 1, left - 1);
+        }
+    }
+    straight(columns, rows, marks, q, out, made + 1, left - 1)
+}
+
+// Travel round a block: away from the row, past the block and back.
+fn round_block(
+    columns: u32,
+    rows: u32,
+    marks: &[u8],
+    p: Packet,
+    out: &mut [u8],
+    made: u32,
+    left: u32,
+) -> u32
+    requires { ⌜ Going columns rows (now marks) p (now out) made left × (eqb (p .place .row .0) (p .destination .row .0) ≡ false) ⌝ }
+    ensures { λ x. ⌜ Follows (mesh columns rows (now (marks .entry))) p (now (out .entry)) made left x (now (out .exit)) ⌝ }
+{
+    let q = advance(columns, rows, marks, p, out, made, left);
+    if is_in_row(q) {
+        return straight(columns, rows, marks, q, out, made + 1, left - 1);
+    }
+    round_block(columns, rows, marks, q, out, made + 1, left - 1)
+}
+
+// Whether the hops from here to the destination fit into so many bytes. No route has more than 24704.
+fn has_room(columns: u32, rows: u32, marks: &[u8], packet: Packet, room: usize) -> bool
+    requires { ⌜ OnWay columns rows (now marks) packet hopLimit ⌝ }
+    ensures { λ x. ⌜ x ≡ leb (length (rest hopLimit (mesh columns rows (now (marks .entry))) packet)) room ⌝ }
+{
+    if 24704 <= room {
+        return true;
+    }
+    let mut p = packet;
+    let mut n = 0;
+    while n < room {
+        if is_there(p) {
+            return true;
+        }
+        let h = hop(columns, rows, marks, p);
+        p = moved(p, h);
+        n += 1;
+    }
+    is_there(p)
+}
+
+// Refusals 6 to 9, in this order.
+fn check_request(columns: u32, rows: u32, marks: &[u8], s: Place, d: Place) -> Checked
+    requires { ⌜ Sized columns rows (now marks) × Obstacles columns rows (bad (mesh columns rows (now marks))) (blocks (mesh columns rows (now marks))) ⌝ }
+    ensures { λ x. ⌜ checkedNumber x ≡ requestRefusals (mesh columns rows (now (marks .entry))) s d 0 ⌝ }
+{
+    let checked = check_places(columns, rows, marks, s, d);
+    if let Checked::Refused(why) = checked {
+        return Checked::Refused(why);
+    }
+    if is_on_ring(columns, rows, marks, d) {
+        return Checked::Refused(Refusal::OnRing);
+    }
+    if is_unserved(columns, rows, marks, s, d) {
+        return Checked::Refused(Refusal::Unlawful);
+    }
+    Checked::Clear
+}
+
+// Route on a marking already made: refusals 6 to 10, then the letters.
+pub fn route_marked(
+    columns: u32,
+    rows: u32,
+    marks: &[u8],
+    s: Place,
+    d: Place,
+    out: &mut [u8],
+) -> Routed
+    requires { ⌜ Sized columns rows (now marks) × Obstacles columns rows (bad (mesh columns rows (now marks))) (blocks (mesh columns rows (now marks))) ⌝ }
+    ensures { λ x. ⌜ RoutesOn (mesh columns rows (now (marks .entry))) s d (now (out .entry)) x (now (out .exit)) ⌝ }
+{
+    let checked = check_request(columns, rows, marks, s, d);
+    if let Checked::Refused(why) = checked {
+        return Routed::Refused(why);
+    }
+    let fresh = Packet {
+        place: s,
+        last: Last::None,
+        destination: d,
+    };
+    if !has_room(columns, rows, marks, fresh, out.len()) {
+        return Routed::Refused(Refusal::Room);
+    }
+    let hops = straight(columns, rows, marks, fresh, out, 0, 24705);
+    Routed::Hops(hops)
+}
+
+// Route: writes the letters of the hops, and answers their number.
+pub fn route(columns: u32, rows: u32, map: &[u8], s: Place, d: Place, out: &mut [u8]) -> Routed
+    ensures { λ x. ⌜ Routes columns rows (now (map .entry)) s d (now (out .entry)) x (now (out .exit)) ⌝ }
+{
+    let mut marks = [0u8; 4096];
+    let checked = mark_map(columns, rows, map, &mut marks);
+    if let Checked::Refused(why) = checked {
+        return Routed::Refused(why);
+    }
+    route_marked(columns, rows, &marks[..map.len()], s, d, out)
+}
