@@ -1,0 +1,112 @@
+// The operation "Move on".
+ghost use mathlib.Core.Path.{_≡_};
+ghost use mathlib.Core.Bool.{false};
+ghost use Prim.Native.Nat.{_<_};
+ghost use Rattle.mesh.specs.Mesh.{mesh};
+ghost use Rattle.mesh.specs.Blocks.{bad, blocks};
+ghost use Rattle.mesh.specs.Packets.{isThere};
+ghost use Rattle.mesh.specs.Moving.{MovesOn};
+ghost use Rattle.block_theory.specs.Obstacles.{Obstacles};
+ghost use Rattle.maps.specs.Sized.{Sized};
+ghost use Rattle.move_on.specs.Marked.{refusalOn, Moves};
+use hops::is_there;
+use hops::moved;
+use hops::test_hop;
+use marking::mark_map;
+use mesh::Checked;
+use mesh::Moved;
+use mesh::Packet;
+use mesh::Refusal;
+use mesh::Stepped;
+use mesh::Tested;
+use places::check_places;
+use places::is_on_ring;
+use rules::hop;
+
+// The hop by the rules from where the packet is, or refusal 9.
+fn make_hop(columns: u32, rows: u32, marks: &[u8], before: Packet) -> Stepped
+    requires { ⌜ Sized columns rows (now marks) × (before .place .row .0 < rows) × (before .place .column .0 < columns) × (isThere before ≡ false) ⌝ }
+    ensures { λ x. ⌜ Moves 0 (mesh columns rows (now (marks .entry))) before (x .moved) (x .packet) ⌝ }
+{
+    let h = hop(columns, rows, marks, before);
+    let tested = test_hop(columns, rows, marks, before, h);
+    if let Tested::Lawful = tested {
+        let after = moved(before, h);
+        return Stepped {
+            packet: after,
+            moved: Moved::Hop(h),
+        };
+    }
+    Stepped {
+        packet: before,
+        moved: Moved::Refused(Refusal::Unlawful),
+    }
+}
+
+// On a marking: refusals 6, 7 and 8, then "arrived", then the hop.
+fn step_marked(columns: u32, rows: u32, marks: &[u8], p: Packet) -> Stepped
+    requires { ⌜ Sized columns rows (now marks) × Obstacles columns rows (bad (mesh columns rows (now marks))) (blocks (mesh columns rows (now marks))) ⌝ }
+    ensures { λ x. ⌜ Moves (refusalOn (mesh columns rows (now (marks .entry))) p) (mesh columns rows (now (marks .entry))) p (x .moved) (x .packet) ⌝ }
+{
+    let place = p.place;
+    let destination = p.destination;
+    let checked = check_places(columns, rows, marks, place, destination);
+    if let Checked::Refused(why) = checked {
+        return Stepped {
+            packet: p,
+            moved: Moved::Refused(why),
+        };
+    }
+    let on_ring = is_on_ring(columns, rows, marks, destination);
+    let there = is_there(p);
+    if on_ring {
+        return Stepped {
+            packet: p,
+            moved: Moved::Refused(Refusal::OnRing),
+        };
+    }
+    if there {
+        return Stepped {
+            packet: p,
+            moved: Moved::Arrived,
+        };
+    }
+    make_hop(columns, rows, marks, p)
+}
+
+// One hop of a packet, from record to record.
+pub fn step(columns: u32, rows: u32, map: &[u8], packet: Packet) -> Stepped
+    ensures { λ x. ⌜ MovesOn columns rows (now (map .entry)) packet (x .moved) (x .packet) ⌝ }
+{
+    let mut marks = [0u8; 4096];
+    let checked = mark_map(columns, rows, map, &mut marks);
+    if let Checked::Refused(why) = checked {
+        return Stepped {
+            packet: packet,
+            moved: Moved::Refused(why),
+        };
+    }
+    step_marked(columns, rows, &marks[..map.len()], packet)
+}
+
+// Move on: the packet's record is moved by one hop, and the answer is its letter, "arrived" or a refusal.
+pub fn move_on(columns: u32, rows: u32, map: &[u8], packet: &mut Packet) -> Moved
+    ensures { λ m. ⌜ MovesOn columns rows (now (map .entry)) (now (packet .entry)) m (now (packet .exit)) ⌝ }
+{
+    let p = *packet;
+    let s = step(columns, rows, map, p);
+    *packet = s.packet;
+    s.moved
+}
+
+// The same from record to record, by lending a local to it: programs call this one.
+pub fn moved_on(columns: u32, rows: u32, map: &[u8], packet: Packet) -> Stepped
+    ensures { λ x. ⌜ MovesOn columns rows (now (map .entry)) packet (x .moved) (x .packet) ⌝ }
+{
+    let mut p = packet;
+    let m = move_on(columns, rows, map, &mut p);
+    Stepped {
+        packet: p,
+        moved: m,
+    }
+}
