@@ -8,11 +8,12 @@ use Prim.Native.Nat.{ℕ, zero, suc, _+_, _*_, _≤_, _<_}
 use native.Mathlib.Nat.{add-zero, zero-add, add-suc, suc-add}
 use native.Mathlib.Decide.{decLt}
 use native.Mathlib.Omega.{arith}
-use borrow.Author.Tests.{eq-eqb, eqb-true, ltb-true, lt-ltb}
+use borrow.Author.Tests.{ltb-true, lt-ltb}
 use lib.Dec.{ltb}
 use lib.ListN.{length, getD}
 use Rattle.mesh.specs.Mesh.{Mesh, onMesh}
 use Rattle.mesh.specs.Blocks.{isBad, bad, unsafe, become, advance, round, on, sameList, settle, marked}
+use Rattle.mesh.proofs.Lists.{same-eq, same-refl}
 use Rattle.mesh.proofs.Bools.{true-false, value, and-both, or-cases}
 use Rattle.mesh.proofs.Index.{index-row, index-column, index-within}
 use Rattle.block_theory.specs.Marking.{Closed, OnMesh, Holds}
@@ -91,20 +92,6 @@ round-less w changed =
       | yes h ↦ h
       | no h ↦ absurd (changed (advance-fewer _ 0 (w .map) .or-same (omega arith)))
     ]
-
-same-eq : (xs ys : List ℕ) → sameList xs ys ≡ true → xs ≡ ys
-unfolding sameList
-same-eq [] [] e = refl
-same-eq [] (y ∷ ys) e = cc
-same-eq (x ∷ xs) [] e = cc
-same-eq (x ∷ xs) (y ∷ ys) e =
-    let h = and-both e in
-    rw (eqb-true x y (h .0), same-eq xs ys (h .1))
-
-same-refl : (xs : List ℕ) → sameList xs xs ≡ true
-unfolding sameList
-same-refl [] = refl
-same-refl (x ∷ xs) = rw (eq-eqb x x refl, same-refl xs)
 
 unlike-less : (w : Mesh) → sameList (round w) (w .map) ≡ false → safe (round w) < safe (w .map)
 unlike-less w e = round-less w (λ s. true-false (same-refl (w .map)) (rw s at e))

@@ -15,10 +15,10 @@ use Rattle.mesh.specs.declared.Heading.the-variants.{East as E}
 use Rattle.mesh.specs.declared.Packet.{Packet}
 use Rattle.mesh.specs.declared.Place.{Place}
 use Rattle.mesh.specs.Mesh.{letter, letters}
-use Rattle.mesh.specs.Blocks.{sameList}
 use Rattle.mesh.specs.Hops.{Trip}
 use Rattle.mesh.specs.Walk.{At, moved, hopAt}
 use Rattle.mesh.specs.Moving.{hopped, there, movedTold, MovesOn}
+use Rattle.mesh.proofs.Lists.{same-eq, same-refl}
 use Rattle.mesh.proofs.Bools.{value, and-both}
 use Rattle.walk_theory.specs.Claims.{reached, Hops}
 use Rattle.judge_theory.specs.Claims.{tripTo, startAt}
@@ -26,20 +26,6 @@ use Rattle.demands.specs.Demand3.{Call, Keeps, Refused, lettersThenArriv
 use Rattle.demands.proofs.Requests.{Clear}
 use Rattle.demands.proofs.Hops.{way}
 use Rattle.demands.proofs.Steps.{hopped-refused, there-refused, refused-still, hops-answer, hops-record, arrived-answer, arrived-record}
-
-same-eq : (xs ys : List ℕ) → sameList xs ys ≡ true → xs ≡ ys
-unfolding sameList
-same-eq [] [] e = refl
-same-eq [] (y ∷ ys) e = cc
-same-eq (x ∷ xs) [] e = cc
-same-eq (x ∷ xs) (y ∷ ys) e =
-    let h = and-both e in
-    rw (eqb-true x y (h .0), same-eq xs ys (h .1))
-
-same-refl : (xs : List ℕ) → sameList xs xs ≡ true
-unfolding sameList
-same-refl [] = refl
-same-refl (x ∷ xs) = rw (eq-eqb x x refl, same-refl xs)
 
 -- one hop more
 reached-next : (w : Trip) (k : ℕ) (p : At) → reached (suc k) w p ≡ moved (hopAt w (reached k w p)) (reached k w p)

@@ -16,7 +16,7 @@ use Rattle.mesh.specs.Blocks.{marked}
 use Rattle.mesh.specs.Refusals.{badSize, badLength, badByte, misplaced, offMesh, inBlock, onARing, unserved, mapRefusals, placeRefusals}
 use Rattle.mesh.specs.Operations.{Answer, returned, answer, written, routedAnswer, routeRefusal, Routes}
 use Rattle.mesh.proofs.Refusals.{others-next}
-use Rattle.judge_theory.proofs.Judged.{letters-length}
+use Rattle.mesh.proofs.Lists.{letters-length}
 use Rattle.demands.specs.Demand3.{hops, requestRefusal, RouteGiven}
 use Rattle.demands.proofs.Requests.{Clear}
 

@@ -3,7 +3,7 @@ use mathlib.Core.Path.{_≡_, refl, sym, _∙_}
 use mathlib.Core.Logic.{inl, inr}
 use mathlib.Core.Bool.{true, false, cond}
 use mathlib.Core.List.{List}
-use Prim.Native.Nat.{ℕ, suc, pred, _+_, _≤_, _<_}
+use Prim.Native.Nat.{ℕ, suc, _+_, _≤_, _<_}
 use native.Mathlib.Numerals.{add-one}
 use native.Mathlib.Omega.{arith}
 use lib.ListN.{length, getD, drop, drop-of-length-le}
@@ -12,7 +12,7 @@ use Rattle.mesh.specs.declared.Heading.{Heading}
 use Rattle.mesh.specs.declared.Letter.{Letter}
 use Rattle.mesh.specs.declared.Letter.the-variants.{Hop, Other}
 use Rattle.mesh.specs.declared.Fault.{Fault}
-use Rattle.mesh.specs.declared.Fault.the-variants.{NoLetter, LeavesMesh, Reverses, ForbiddenTurn, EntersBlock, NotArrived}
+use Rattle.mesh.specs.declared.Fault.the-variants.{NoLetter, NotArrived}
 use Rattle.mesh.specs.declared.Tested.{Tested}
 use Rattle.mesh.specs.declared.Tested.the-variants.{Lawful, Wrong}
 use Rattle.mesh.specs.declared.Packet.{Packet}
@@ -22,17 +22,9 @@ use Rattle.mesh.specs.Walk.{At, stays, moved, arrived}
 use Rattle.mesh.specs.Packets.{at, tripOf, isThere, movedPacket}
 use Rattle.mesh.specs.Judging.{faultNumber, testedNumber, named, letterFault, follow, passed, failed, unless, judge}
 use Rattle.mesh.proofs.Bools.{value}
+use Rattle.mesh.proofs.Refusals.{fault-some}
 use Rattle.hops.specs.Lands.{Lands}
 use Rattle.hops.proofs.Landing.{stays-lands, stays-on}
-
-pub fault-some : (f : Fault) → faultNumber f ≡ suc (pred (faultNumber f))
-unfolding faultNumber
-fault-some NoLetter = refl
-fault-some LeavesMesh = refl
-fault-some Reverses = refl
-fault-some ForbiddenTurn = refl
-fault-some EntersBlock = refl
-fault-some NotArrived = refl
 
 -- a letter with nothing wrong stays on the mesh
 lawful-stays : (w : Trip) (p : At) (h : Heading) → letterFault w p (Hop h) ≡ 0 → stays (w .columns) (w .rows) h (p .row) (p .column) ≡ true

@@ -1,5 +1,5 @@
 -- A whole hand-in, letter by letter. Assumes nothing.
-use mathlib.Core.Path.{_≡_, refl, ap, sym, _∙_}
+use mathlib.Core.Path.{_≡_, refl, sym, _∙_}
 use mathlib.Core.Logic.{_↔_, inl, inr}
 use mathlib.Core.Bool.{true, false}
 use mathlib.Core.List.{List, [], _∷_}
@@ -15,6 +15,7 @@ use Rattle.mesh.specs.Mesh.{letter, letters}
 use Rattle.mesh.specs.Hops.{Trip}
 use Rattle.mesh.specs.Walk.{At, moved, lawful, arrived, lawfulRoute}
 use Rattle.mesh.specs.Judging.{named, letterFault, follow, passed, failed, unless, judge, judgement}
+use Rattle.mesh.proofs.Lists.{letters-length}
 use Rattle.mesh.proofs.Bools.{true-false, value, and-both, and-intro}
 use Rattle.judge_theory.specs.Claims.{LawfulHandIn, lawfulHops, after, NotLawful, no-letter, unlawful, WentWrong, at-letter, at-end, FailedAt, refusalOf, tripTo, startAt}
 use Rattle.judge_theory.proofs.Letters.{letter-named, faultless-lawful, good, faulty, examine}
@@ -28,11 +29,6 @@ passed-number e = cc
 
 failed-number : {k j k′ j′ : ℕ} → failed k j ≡ failed k′ j′ → (k ≡ k′) × (j ≡ j′)
 failed-number e = (cc, cc)
-
-pub letters-length : (hs : List Heading) → length (letters hs) ≡ length hs
-unfolding letters
-letters-length [] = refl
-letters-length (h ∷ hs) = ap suc (letters-length hs)
 
 module _ (w : Trip) where
   -- the verdict on the first letter

@@ -14,13 +14,15 @@ use Rattle.mesh.specs.declared.Checked.{Checked}
 use Rattle.mesh.specs.declared.Checked.the-variants as checks
 use Rattle.mesh.specs.declared.Marked.the-variants.{Blocks, Refused}
 use Rattle.mesh.specs.Mesh.{mesh}
-use Rattle.mesh.specs.Blocks.{marked, blocks}
+use Rattle.mesh.specs.Blocks.{bad, marked, blocks}
 use Rattle.mesh.specs.Refusals.{number, checkedNumber, mapRefusals}
 use Rattle.mesh.specs.Operations.{answer, written, markedAnswer, markRefusal, MarksBlocks}
 use Rattle.mesh.proofs.Refusals.{number-some, accepted, map-clear, others-next}
 use Rattle.mesh.proofs.Index.{few-nodes}
 use Rattle.mesh.proofs.Answers.{answer-refused, written-refused}
+use Rattle.block_theory.specs.Obstacles.{Obstacles}
 use Rattle.block_theory.proofs.Marking.{marked-length}
+use Rattle.block_theory.proofs.Theorems.{obstacles}
 use Rattle.maps.specs.Sized.{Sized}
 use Rattle.marking.specs.Marks.{MarksMap}
 
@@ -64,6 +66,9 @@ module _ (columns rows : ℕ) (map : List ℕ) where
   module _ {x : Checked} {after : List ℕ} (m : MarksMap columns rows map x after) (e : x ≡ checks.Clear) where
     pub marks-clear : mapRefusals columns rows map 0 ≡ 0
     marks-clear = map-clear columns rows map e (m .checks)
+
+    pub marks-obstacles : Obstacles columns rows (bad (mesh columns rows (take (length map) after))) (blocks (mesh columns rows (take (length map) after)))
+    marks-obstacles = rw (m .marks e) (obstacles (accepted columns rows map marks-clear))
 
     pub marks-sized : Sized columns rows (take (length map) after)
     marks-sized =

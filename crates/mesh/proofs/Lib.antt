@@ -4,3 +4,4 @@ pub mod Turns
 pub mod Some
 pub mod Refusals
 pub mod Answers
+pub mod Lists

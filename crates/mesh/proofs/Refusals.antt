@@ -10,11 +10,14 @@ use lib.Dec.{eqb, ltb}
 use lib.ListN.{length, getD}
 use Rattle.mesh.specs.declared.Refusal.{Refusal}
 use Rattle.mesh.specs.declared.Refusal.the-variants.{Columns, Rows, MapLength, MapByte, FaultPlace, OffMesh, InBlock, OnRing, Unlawful, Room}
+use Rattle.mesh.specs.declared.Fault.{Fault}
+use Rattle.mesh.specs.declared.Fault.the-variants.{NoLetter, LeavesMesh, Reverses, ForbiddenTurn, EntersBlock, NotArrived}
 use Rattle.mesh.specs.declared.Checked.{Checked}
 use Rattle.mesh.specs.declared.Checked.the-variants.{Clear, Refused}
 use Rattle.mesh.specs.Mesh.{mesh, onMesh}
 use Rattle.mesh.specs.Blocks.{isBad, bad, allowed}
 use Rattle.mesh.specs.Refusals.{number, checkedNumber, badSize, badLength, badByte, misplacedAt, misplaced, mapRefusals}
+use Rattle.mesh.specs.Judging.{faultNumber}
 use Rattle.mesh.proofs.Bools.{and-both, and-right, or-none}
 use Rattle.mesh.proofs.Some.{none-passes}
 use Rattle.mesh.proofs.Index.{index-row, index-column, index-within}
@@ -31,6 +34,15 @@ number-some InBlock = refl
 number-some OnRing = refl
 number-some Unlawful = refl
 number-some Room = refl
+
+pub fault-some : (f : Fault) → faultNumber f ≡ suc (pred (faultNumber f))
+unfolding faultNumber
+fault-some NoLetter = refl
+fault-some LeavesMesh = refl
+fault-some Reverses = refl
+fault-some ForbiddenTurn = refl
+fault-some EntersBlock = refl
+fault-some NotArrived = refl
 
 -- a mesh and a map that refusals 1 to 5 let pass
 pub record Accepted (columns rows : ℕ) (map : List ℕ) : Type 0 where

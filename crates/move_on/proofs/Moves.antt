@@ -8,7 +8,6 @@ use native.Mathlib.Omega.{arith}
 use Rattle.mesh.specs.declared.Heading.{Heading}
 use Rattle.mesh.specs.declared.Letter.the-variants.{Hop}
 use Rattle.mesh.specs.declared.Fault.{Fault}
-use Rattle.mesh.specs.declared.Fault.the-variants.{NoLetter, LeavesMesh, Reverses, ForbiddenTurn, EntersBlock, NotArrived}
 use Rattle.mesh.specs.declared.Tested.{Tested}
 use Rattle.mesh.specs.declared.Tested.the-variants.{Lawful, Wrong}
 use Rattle.mesh.specs.declared.Refusal.{Refusal}
@@ -17,16 +16,14 @@ use Rattle.mesh.specs.declared.Moved.{Moved}
 use Rattle.mesh.specs.declared.Moved.the-variants as moves
 use Rattle.mesh.specs.declared.Packet.{Packet}
 use Rattle.mesh.specs.Mesh.{Mesh, mesh}
-use Rattle.mesh.specs.Blocks.{bad, marked, blocks}
+use Rattle.mesh.specs.Blocks.{marked}
 use Rattle.mesh.specs.Walk.{lawful, hopAt}
 use Rattle.mesh.specs.Packets.{at, tripOf, isThere, movedPacket}
 use Rattle.mesh.specs.Refusals.{number, mapRefusals, placeRefusals, onARing}
 use Rattle.mesh.specs.Judging.{faultNumber, testedNumber, letterFault}
 use Rattle.mesh.specs.Moving.{movedTold, moveRefusal, hopFrom, mayHop, told, recordAfter, MovesOn}
 use Rattle.mesh.proofs.Bools.{value, and-both}
-use Rattle.mesh.proofs.Refusals.{number-some, accepted, others-next}
-use Rattle.block_theory.specs.Obstacles.{Obstacles}
-use Rattle.block_theory.proofs.Theorems.{obstacles}
+use Rattle.mesh.proofs.Refusals.{number-some, fault-some, others-next}
 use Rattle.judge_theory.proofs.Theorems.{letter-lawful}
 use Rattle.places.proofs.Placed.{places-next}
 use Rattle.hops.specs.Lands.{Lands}
@@ -35,13 +32,7 @@ use Rattle.move_on.specs.Marked.{refusalOn, Moves}
 
 -- a hop with something wrong is not one with nothing wrong
 wrong-some : (f : Fault) → faultNumber f ≡ 0 → ⊥
-unfolding faultNumber
-wrong-some NoLetter e = absurd (omega arith)
-wrong-some LeavesMesh e = absurd (omega arith)
-wrong-some Reverses e = absurd (omega arith)
-wrong-some ForbiddenTurn e = absurd (omega arith)
-wrong-some EntersBlock e = absurd (omega arith)
-wrong-some NotArrived e = absurd (omega arith)
+wrong-some f e = omega (arith, fault-some f)
 
 module _ (w : Mesh) (p : Packet) where
   pub moves-refused : {k : ℕ} (why : Refusal) → k ≡ number why → Moves k w p (moves.Refused why) p
@@ -95,9 +86,6 @@ module _ (w : Mesh) (p : Packet) where
 
 module _ (columns rows : ℕ) (map : List ℕ) where
   -- what stands in the way on the marking of a map that refusals 1 to 5 let pass
-  pub marks-obstacles : {m : List ℕ} → mapRefusals columns rows map 0 ≡ 0 → m ≡ marked (mesh columns rows map) .map → Obstacles columns rows (bad (mesh columns rows m)) (blocks (mesh columns rows m))
-  marks-obstacles clear e = rw e (obstacles (accepted columns rows map clear))
-
   module _ (p : Packet) where
     moves-on : {m : Moved} {after : Packet} → Moves (moveRefusal columns rows map p) (marked (mesh columns rows map)) p m after → MovesOn columns rows map p m after
     moves-on s = record { answers = s .answers; leaves = s .leaves }

@@ -7,19 +7,14 @@ use Rattle.mesh.specs.declared.Routed.{Routed}
 use Rattle.mesh.specs.declared.Routed.the-variants.{Refused}
 use Rattle.mesh.specs.declared.Place.{Place}
 use Rattle.mesh.specs.Mesh.{mesh}
-use Rattle.mesh.specs.Blocks.{bad, blocks, marked}
+use Rattle.mesh.specs.Blocks.{marked}
 use Rattle.mesh.specs.Refusals.{number, mapRefusals}
 use Rattle.mesh.specs.Operations.{routedAnswer, routeRefusal, Routes}
-use Rattle.mesh.proofs.Refusals.{accepted, others-next}
+use Rattle.mesh.proofs.Refusals.{others-next}
 use Rattle.mesh.proofs.Answers.{answer-refused, written-refused}
-use Rattle.block_theory.specs.Obstacles.{Obstacles}
-use Rattle.block_theory.proofs.Theorems.{obstacles}
 use Rattle.route.specs.Marked.{requestRefusals, refusalOn, RoutesOn}
 
 module _ (columns rows : ℕ) (map : List ℕ) where
-  pub marks-obstacles : {m : List ℕ} → mapRefusals columns rows map 0 ≡ 0 → m ≡ marked (mesh columns rows map) .map → Obstacles columns rows (bad (mesh columns rows m)) (blocks (mesh columns rows m))
-  marks-obstacles clear e = rw e (obstacles (accepted columns rows map clear))
-
   module _ (s d : Place) (out : List ℕ) where
     pub map-refused-routed : (why : Refusal) → ((others : ℕ) → mapRefusals columns rows map others ≡ number why) → Routes columns rows map s d out (Refused why) out
     unfolding routedAnswer routeRefusal

@@ -1,8 +1,8 @@
 -- The cases of "Route" on a marking. Assumes nothing.
-use mathlib.Core.Path.{_≡_, refl, sym, ap, _∙_}
+use mathlib.Core.Path.{_≡_, sym, ap, _∙_}
 use mathlib.Core.Bool.{true, false, cond}
-use mathlib.Core.List.{List, [], _∷_}
-use Prim.Native.Nat.{ℕ, suc, _+_, _*_, _≤_, _<_}
+use mathlib.Core.List.{List}
+use Prim.Native.Nat.{ℕ, _+_, _*_, _≤_, _<_}
 use native.Mathlib.Nat.{zero-add, mul-comm}
 use native.Mathlib.Omega.{arith}
 use borrow.Author.Tests.{leb-true, leb-false, lt-ltb, le-ltb}
@@ -21,6 +21,7 @@ use Rattle.mesh.specs.Walk.{tripOn, distance, bound}
 use Rattle.mesh.specs.Refusals.{number}
 use Rattle.mesh.specs.Operations.{routedAnswer, answer, written, hopsOf}
 use Rattle.mesh.proofs.Index.{few-nodes}
+use Rattle.mesh.proofs.Lists.{letters-length}
 use Rattle.mesh.proofs.Answers.{answer-refused, written-refused}
 use Rattle.block_theory.specs.Obstacles.{Obstacles}
 use Rattle.block_theory.proofs.Area.{detours-bounded}
@@ -81,11 +82,6 @@ going-start {columns} {rows} {marks} {p} out g h =
       room = omega (arith, leb-true (length (rest hopLimit (mesh columns rows marks) p)) (length out) h);
       few = omega arith;
     }
-
-letters-length : (hs : List Heading) → length (letters hs) ≡ length hs
-unfolding letters
-letters-length [] = refl
-letters-length (h ∷ hs) = ap suc (letters-length hs)
 
 module _ (w : Mesh) (s d : Place) (out : List ℕ) where
   refused : (why : Refusal) → refusalOn w s d out ≡ number why → RoutesOn w s d out (Refused why) out

@@ -4,8 +4,8 @@ use mathlib.Core.Path.{sym}
 use native.Mathlib.Omega.{arith}
 use lib.Seq.{length-take-le}
 use Rattle.mesh.proofs.Refusals.{map-refused}
-use Rattle.marking.proofs.Marks.{clear-few, marks-clear, marks-sized}
-use Rattle.move_on.proofs.Moves.{marks-obstacles, map-refused-moves, marked-moves}
+use Rattle.marking.proofs.Marks.{clear-few, marks-clear, marks-obstacles, marks-sized}
+use Rattle.move_on.proofs.Moves.{map-refused-moves, marked-moves}
 use Rattle.move_on.proofs.step.Statement.{statement}
 use Rattle.move_on.proofs.step.Tie as tie
 
@@ -31,7 +31,7 @@ slice-aggregate-step-marked : tie.Need-slice-aggregate-step-marked
 slice-aggregate-step-marked c = sym (length-take-le _ _ (omega (arith, c .before .before .before .before .mark-map .kept .1 .1 .1 .0, clear-few _ _ _ (marks-clear _ _ _ (c .before .before .before .before .mark-map .ensures) (c .before .enum-told .given .1)))))
 
 step-marked-requires : tie.Need-step-marked-requires
-step-marked-requires c κs = (marks-sized _ _ _ (c .before .before .before .before .mark-map .ensures) (c .before .enum-told .given .1), marks-obstacles _ _ _ (marks-clear _ _ _ (c .before .before .before .before .mark-map .ensures) (c .before .enum-told .given .1)) (c .before .before .before .before .mark-map .ensures .marks (c .before .enum-told .given .1)))
+step-marked-requires c κs = (marks-sized _ _ _ (c .before .before .before .before .mark-map .ensures) (c .before .enum-told .given .1), marks-obstacles _ _ _ (c .before .before .before .before .mark-map .ensures) (c .before .enum-told .given .1))
 
 returns-2 : tie.Need-returns-2
 returns-2 c = marked-moves _ _ _ _ (marks-clear _ _ _ (c .before .before .before .before .before .mark-map .ensures) (c .before .before .enum-told .given .1)) (c .before .before .before .before .before .mark-map .ensures .marks (c .before .before .enum-told .given .1)) (c .step-marked .ensures)

@@ -4,8 +4,8 @@ use mathlib.Core.Path.{sym}
 use native.Mathlib.Omega.{arith}
 use lib.Seq.{length-take-le}
 use Rattle.mesh.proofs.Refusals.{map-refused}
-use Rattle.marking.proofs.Marks.{clear-few, marks-clear, marks-sized}
-use Rattle.route.proofs.Mapped.{marks-obstacles, map-refused-routed, marked-routed}
+use Rattle.marking.proofs.Marks.{clear-few, marks-clear, marks-obstacles, marks-sized}
+use Rattle.route.proofs.Mapped.{map-refused-routed, marked-routed}
 use Rattle.route.proofs.route.Statement.{statement}
 use Rattle.route.proofs.route.Tie as tie
 
@@ -31,7 +31,7 @@ slice-aggregate-route-marked : tie.Need-slice-aggregate-route-marked
 slice-aggregate-route-marked c = sym (length-take-le _ _ (omega (arith, c .before .before .before .before .mark-map .kept .1 .1 .1 .0, clear-few _ _ _ (marks-clear _ _ _ (c .before .before .before .before .mark-map .ensures) (c .before .enum-told .given .1)))))
 
 route-marked-requires : tie.Need-route-marked-requires
-route-marked-requires c κs = (marks-sized _ _ _ (c .before .before .before .before .before .mark-map .ensures) (c .before .before .enum-told .given .1), marks-obstacles _ _ _ (marks-clear _ _ _ (c .before .before .before .before .before .mark-map .ensures) (c .before .before .enum-told .given .1)) (c .before .before .before .before .before .mark-map .ensures .marks (c .before .before .enum-told .given .1)))
+route-marked-requires c κs = (marks-sized _ _ _ (c .before .before .before .before .before .mark-map .ensures) (c .before .before .enum-told .given .1), marks-obstacles _ _ _ (c .before .before .before .before .before .mark-map .ensures) (c .before .before .enum-told .given .1))
 
 same-length : tie.Need-same-length
 same-length c = search needs
