@@ -73,6 +73,6 @@ pub fn put_ok(out: &mut [u8], at: usize, letters: &[u8]) -> usize
 {
     let hops = put(out, at, b"ok ");
     let space = put_number(out, hops, letters.len() as u32);
-    let end = put_letters(out, space, letters);
-    put_byte(out, end, b'\n')
+    let after = put_letters(out, space, letters);
+    put_byte(out, after, b'\n')
 }
