@@ -1,15 +1,27 @@
--- Letters written one after another stand as a whole. Assumes nothing.
-use mathlib.Core.Path.{_≡_, sym, _∙_}
+-- Bytes written one after another stand as a whole. Assumes nothing.
+use mathlib.Core.Path.{_≡_, refl, sym, ap, _∙_}
 use mathlib.Core.List.{List, [], _∷_, _++_, append-assoc}
 use Prim.Native.Nat.{ℕ, suc, _+_, _≤_}
 use native.Mathlib.Nat.{add-zero, zero-add}
 use native.Mathlib.Numerals.{add-one}
 use native.Mathlib.Omega.{arith}
-use lib.ListN.{length, take, drop, set, length-set, take-append-drop}
-use lib.Seq.{take-suc-set, drop-set-lt}
-use Rattle.buffers.specs.Over.{over}
+use lib.ListN.{length, take, drop, set, length-set, length-append, take-append-drop}
+use lib.Seq.{take-at, take-suc-set, drop-set-lt, length-take-le}
+use Rattle.buffers.specs.Over.{over, Puts}
 
-over-from : (xs : List ℕ) (i : ℕ) (ys : List ℕ) → i + length ys ≤ length xs → over xs i ys ≡ take i xs ++ (ys ++ drop (i + length ys) xs)
+pub over-length : (xs : List ℕ) (i : ℕ) (ys : List ℕ) → length (over xs i ys) ≡ length xs
+unfolding over
+over-length xs i [] = refl
+over-length xs i (y ∷ ys) = over-length (set xs i y) (i + 1) ys ∙ length-set xs i y
+
+pub over-append : (xs : List ℕ) (i : ℕ) (ys zs : List ℕ) → over xs i (ys ++ zs) ≡ over (over xs i ys) (i + length ys) zs
+unfolding over
+over-append xs i [] zs = rw add-zero
+over-append xs i (y ∷ ys) zs =
+    let next : i + 1 + length ys ≡ i + suc (length ys) = omega arith in
+    over-append (set xs i y) (i + 1) ys zs ∙ rw next
+
+pub over-from : (xs : List ℕ) (i : ℕ) (ys : List ℕ) → i + length ys ≤ length xs → over xs i ys ≡ take i xs ++ (ys ++ drop (i + length ys) xs)
 unfolding over
 over-from xs i [] h = rw add-zero (sym (take-append-drop i xs))
 over-from xs i (y ∷ ys) h =
@@ -20,3 +32,17 @@ over-from xs i (y ∷ ys) h =
 
 pub over-all : (xs ys : List ℕ) → length ys ≤ length xs → over xs 0 ys ≡ ys ++ drop (length ys) xs
 over-all xs ys h = over-from xs 0 ys (omega arith) ∙ rw (zero-add (length ys))
+
+pub take-over : (xs : List ℕ) (i : ℕ) (ys : List ℕ) → i + length ys ≤ length xs → take (i + length ys) (over xs i ys) ≡ take i xs ++ ys
+take-over xs i ys h =
+    let n : length (take i xs ++ ys) ≡ i + length ys = length-append (take i xs) ys ∙ rw (length-take-le i xs (omega arith)) in
+    ap (take (i + length ys)) (over-from xs i ys h ∙ sym (append-assoc (take i xs) ys (drop (i + length ys) xs))) ∙
+    take-at (take i xs ++ ys) (drop (i + length ys) xs) (i + length ys) n
+
+-- one thing after another
+pub puts-append : {out : List ℕ} {at : ℕ} {ys : List ℕ} {x : ℕ} {mid zs : List ℕ} {x′ : ℕ} {after : List ℕ} → Puts out at ys x mid → Puts mid x zs x′ after → Puts out at (ys ++ zs) x′ after
+puts-append {out} {at} {ys} {x} {mid} {zs} {x′} {after} p q =
+    record {
+      next = q .next ∙ omega (arith, p .next, length-append ys zs);
+      stands = q .stands ∙ rw (p .stands, p .next) (sym (over-append out at ys zs));
+    }

@@ -1,0 +1,38 @@
+-- Bytes copied into a buffer one by one. Assumes nothing.
+use mathlib.Core.Path.{_≡_, refl, sym, _∙_}
+use mathlib.Core.List.{List, [], _∷_}
+use Prim.Native.Nat.{ℕ, _+_, _<_}
+use native.Mathlib.Nat.{add-zero}
+use native.Mathlib.Numerals.{add-one}
+use native.Mathlib.Omega.{arith}
+use lib.ListN.{length, drop, set, getD, length-set, drop-of-length-le}
+use lib.Seq.{drop-cons}
+use Rattle.buffers.specs.Over.{over, Puts}
+
+pub puts-byte : (out : List ℕ) (at byte : ℕ) → Puts out at (byte ∷ []) (at + 1) (set out at byte)
+unfolding over
+puts-byte out at byte = record { next = refl; stands = refl }
+
+-- the bytes before index i are copied: with the others the buffer is as it will be
+pub record Putting (out : List ℕ) (at : ℕ) (from : List ℕ) (i : ℕ) (now : List ℕ) : Type 0 where
+  pub size : length now ≡ length out
+  pub leads : over now (at + i) (drop i from) ≡ over out at from
+
+module _ {out : List ℕ} {at : ℕ} {from : List ℕ} where
+  pub putting-none : Putting out at from 0 out
+  putting-none = record { size = refl; leads = rw add-zero }
+
+  module _ {i : ℕ} {now : List ℕ} (p : Putting out at from i now) where
+    pub putting-more : {y : ℕ} → i < length from → y ≡ getD from i 0 → Putting out at from (i + 1) (set now (at + i) y)
+    unfolding over
+    putting-more {y} h e =
+        let next : at + i + 1 ≡ at + (i + 1) = omega arith in
+        record {
+          size = length-set now (at + i) y ∙ p .size;
+          leads = rw (← next, add-one i, e) (rw (drop-cons from i 0 h) at (p .leads));
+        }
+
+    pub putting-all : i ≡ length from → Puts out at from (at + length from) now
+    unfolding over
+    putting-all e =
+        record { next = refl; stands = sym (sym (p .leads) ∙ rw (drop-of-length-le from {i = i} (omega arith))) }
