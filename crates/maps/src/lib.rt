@@ -12,7 +12,7 @@ use mesh::Refusal;
 use mesh::Row;
 
 // Refusals 1 and 2.
-fn is_bad_size(n: u32) -> bool
+pub fn is_bad_size(n: u32) -> bool
     ensures { λ x. ⌜ x ≡ badSize n ⌝ }
 {
     if n == 0 {
@@ -75,7 +75,7 @@ fn is_misplaced(columns: u32, rows: u32, i: u32, x: u8) -> bool
 }
 
 // Refusal 5.
-fn has_misplaced(columns: u32, rows: u32, map: &[u8]) -> bool
+pub fn has_misplaced(columns: u32, rows: u32, map: &[u8]) -> bool
     requires { ⌜ Sized columns rows (now map) ⌝ }
     ensures { λ x. ⌜ x ≡ misplaced columns rows (now (map .entry)) ⌝ }
 {

@@ -1,3 +1,4 @@
 pub mod Sheet
 pub mod Reader
+pub mod Keeping
 pub mod Cases
