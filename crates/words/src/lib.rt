@@ -2,6 +2,7 @@
 ghost use mathlib.Core.Path.{_≡_};
 ghost use mathlib.Core.Bool.{true};
 ghost use Prim.Native.Nat.{_+_, _-_, _*_, _^_, _≤_};
+ghost use Rattle.mesh.specs.Packets.{place};
 ghost use Rattle.words.specs.Words.{isDigit, begins, sizes, fault, sendTo, send, command};
 ghost use Rattle.words.specs.Reading.{numberOf, twoOf, moreAt, spacedAt, twoAt, lastAt};
 use mesh::Column;
@@ -139,6 +140,15 @@ fn read_last(line: &[u8], at: usize) -> Both
     }
 }
 
+fn place_of(row: u32, column: u32) -> Place
+    ensures { λ p. ⌜ p ≡ place row column ⌝ }
+{
+    Place {
+        row: Row(row),
+        column: Column(column),
+    }
+}
+
 // After `mesh`.
 fn read_mesh(line: &[u8]) -> Command
     ensures { λ x. ⌜ x ≡ sizes (lastAt (now (line .entry)) 4) ⌝ }
@@ -164,10 +174,7 @@ fn read_fault(line: &[u8]) -> Command
             return Command::Malformed;
         }
         Both::Two(row, column, _) => {
-            return Command::Fault(Place {
-                row: Row(row),
-                column: Column(column),
-            });
+            return Command::Fault(place_of(row, column));
         }
     }
 }
@@ -182,11 +189,7 @@ fn read_destination(line: &[u8], at: usize, source: Place) -> Command
             return Command::Malformed;
         }
         Both::Two(row, column, _) => {
-            let destination = Place {
-                row: Row(row),
-                column: Column(column),
-            };
-            return Command::Send(source, destination);
+            return Command::Send(source, place_of(row, column));
         }
     }
 }
@@ -201,11 +204,7 @@ fn read_send(line: &[u8]) -> Command
             return Command::Malformed;
         }
         Both::Two(row, column, next) => {
-            let source = Place {
-                row: Row(row),
-                column: Column(column),
-            };
-            return read_destination(line, next, source);
+            return read_destination(line, next, place_of(row, column));
         }
     }
 }

@@ -18,10 +18,14 @@ returns c = rw (told-neither _ (c .enum-told .given .1) (c .before .before .read
 enum-known-got : tie.Need-enum-known-got
 enum-known-got c = search needs
 
+place-of-requires : tie.Need-place-of-requires
+place-of-requires c κs = search needs
+
 returns-2 : tie.Need-returns-2
 unfolding sendTo
-returns-2 c = rw (told-two _ (c .before .got .given .1) (c .before .before .before .read-last .ensures))
+returns-2 c = rw (told-two _ (c .before .before .got .given .1) (c .before .before .before .before .read-last .ensures), c .place-of .ensures)
 
 pub read-destination-spec : {M : Type 1} → statement M
 read-destination-spec =
-    tie.close (tie.spec read-last-requires enum-told returns enum-known-got returns-2)
+    tie.close
+    (tie.spec read-last-requires enum-told returns enum-known-got place-of-requires returns-2)

@@ -1,6 +1,5 @@
 -- The destination is read from where the source ends. Assumes nothing.
 use borrow.Author.Needs.{needs}
-use mathlib.Core.Path.{_∙_}
 use Rattle.words.specs.Words.{send}
 use Rattle.words.specs.Reading.{lastAt}
 use Rattle.words.proofs.Spelling.{told-two, told-neither}
@@ -20,12 +19,15 @@ returns c = rw (told-neither _ (c .enum-told .given .1) (c .before .before .read
 enum-known-got : tie.Need-enum-known-got
 enum-known-got c = search needs
 
+place-of-requires : tie.Need-place-of-requires
+place-of-requires c κs = search needs
+
 read-destination-requires : tie.Need-read-destination-requires
 read-destination-requires c κs = search needs
 
 returns-2 : tie.Need-returns-2
 unfolding send lastAt
-returns-2 c = rw (told-two _ (c .before .before .got .given .1) (c .before .before .before .before .read-two .ensures)) (c .read-destination .ensures)
+returns-2 c = rw (told-two _ (c .before .before .before .got .given .1) (c .before .before .before .before .before .read-two .ensures), ← c .before .place-of .ensures) (c .read-destination .ensures)
 
 pub read-send-spec : {M : Type 1} → statement M
 read-send-spec =
@@ -35,5 +37,6 @@ read-send-spec =
     enum-told
     returns
     enum-known-got
+    place-of-requires
     read-destination-requires
     returns-2)
