@@ -23,7 +23,7 @@ enum Spelled {
     Number(u32, usize),
 }
 
-// Two numbers that were read, and the index after them.
+// Two numbers that were read, and the index after the second.
 enum Both {
     Nothing,
     Two(u32, u32, usize),
@@ -84,6 +84,7 @@ fn read_number(line: &[u8], at: usize) -> Spelled
     read_more(line, first + 1, 2, digit(x))
 }
 
+// Two spaced numbers, from there on.
 fn read_two(line: &[u8], at: usize) -> Both
     ensures { λ x. ⌜ twoOf (now (line .entry)) x ≡ twoAt (now (line .entry)) at ⌝ }
 {
@@ -106,6 +107,7 @@ fn read_two(line: &[u8], at: usize) -> Both
     }
 }
 
+// Whether the line begins with the word.
 fn has_word(line: &[u8], word: &[u8]) -> bool
     ensures { λ x. ⌜ x ≡ begins (now (word .entry)) (now (line .entry)) ⌝ }
 {
@@ -122,7 +124,7 @@ fn has_word(line: &[u8], word: &[u8]) -> bool
     true
 }
 
-// Two numbers with nothing after them.
+// Two spaced numbers with nothing after them, from there on.
 fn read_last(line: &[u8], at: usize) -> Both
     ensures { λ x. ⌜ twoOf (now (line .entry)) x ≡ lastAt (now (line .entry)) at ⌝ }
 {
