@@ -1,0 +1,74 @@
+-- The lines of a text, and what a reader holds of them. Assumes nothing.
+use mathlib.Core.Path.{_≡_, refl, sym, ap, _∙_}
+use mathlib.Core.Logic.{inl, inr}
+use mathlib.Core.Bool.{Bool, true, false, cond, _&&_}
+use mathlib.Core.List.{List, [], _∷_, _++_, append-nil, append-assoc}
+use Prim.Native.Nat.{ℕ, suc, _+_, _≤_, _<_}
+use native.Mathlib.Omega.{arith}
+use borrow.Author.Tests.{leb-true, leb-false}
+use lib.Dec.{leb, eqb}
+use lib.ListN.{length, length-append}
+use Rattle.words.specs.declared.Command.the-variants.{Malformed}
+use Rattle.words.specs.Words.{command}
+use Rattle.prints.specs.Prints.{line, lineWord}
+use Rattle.mesh.proofs.Bools.{value}
+use Rattle.sheets.specs.Sheet.{Line, before, linesOf, State, badLine, commandStep, lineStep, atEnd, answers}
+use Rattle.sheets.specs.Reader.{Reader, Fed, feed, feedAll, lastLine, finish}
+
+-- bytes without a newline
+unfoldable pub Unbroken : List ℕ → Type 0
+Unbroken [] = Unit
+Unbroken (x ∷ xs) = (eqb x 10 ≡ false) × Unbroken xs
+
+pub unbroken-more : (xs : List ℕ) (x : ℕ) → Unbroken xs → eqb x 10 ≡ false → Unbroken (xs ++ (x ∷ []))
+unfolding Unbroken
+unbroken-more [] x u e = (e, tt)
+unbroken-more (y ∷ xs) x u e = (u .0, unbroken-more xs x (u .1) e)
+
+-- a newline ends the line before it
+pub lines-ended : (xs : List ℕ) (x : ℕ) (ys : List ℕ) → Unbroken xs → eqb x 10 ≡ true → linesOf (xs ++ (x ∷ ys)) ≡ record { text = xs; ended = true } ∷ linesOf ys
+unfolding Unbroken linesOf before
+lines-ended [] x ys u e = rw e
+lines-ended (y ∷ xs) x ys u e = rw (u .0, lines-ended xs x ys (u .1) e)
+
+-- without one there is one line, not ended
+pub lines-unended : (x : ℕ) (xs : List ℕ) → Unbroken (x ∷ xs) → linesOf (x ∷ xs) ≡ record { text = x ∷ xs; ended = false } ∷ []
+unfolding Unbroken linesOf before
+lines-unended x [] u = rw (u .0)
+lines-unended x (y ∷ xs) u = rw (u .0, lines-unended y xs (u .1))
+
+-- the first line has n bytes or more
+unfoldable pub FirstHas : ℕ → List Line → Type 0
+FirstHas n [] = n ≤ 0
+FirstHas n (l ∷ ls) = n ≤ length (l .text)
+
+first-none : (ls : List Line) → FirstHas 0 ls
+unfolding FirstHas
+first-none [] = omega arith
+first-none (l ∷ ls) = omega arith
+
+first-more : (n x : ℕ) (ls : List Line) → FirstHas n ls → FirstHas (suc n) (before x ls)
+unfolding FirstHas before
+first-more n x [] h = omega (arith, h)
+first-more n x (l ∷ ls) h = omega (arith, h)
+
+pub first-has : (xs ys : List ℕ) → Unbroken xs → FirstHas (length xs) (linesOf (xs ++ ys))
+unfolding Unbroken linesOf
+first-has [] ys u = first-none (linesOf ys)
+first-has (x ∷ xs) ys u = rw (u .0) (first-more (length xs) x (linesOf (xs ++ ys)) (first-has xs ys (u .1)))
+
+-- a run that is over rests
+pub rests : (r : Reader) (xs : List ℕ) → r .over ≡ true → feedAll r xs ≡ record { printed = []; next = r }
+unfolding feedAll
+rests r [] e = refl
+rests r (x ∷ xs) e = rw e
+
+-- reading in chunks
+pub chunks : (r : Reader) (xs ys : List ℕ) → feedAll r (xs ++ ys) ≡ record { printed = feedAll r xs .printed ++ feedAll (feedAll r xs .next) ys .printed; next = feedAll (feedAll r xs .next) ys .next }
+unfolding feedAll
+chunks r [] ys = refl
+chunks r (x ∷ xs) ys =
+    elim (value (r .over)) [
+      | inl e ↦ rests r (x ∷ (xs ++ ys)) e ∙ rw (e, rests (record { number = r .number; state = r .state; held = r .held; over = true }) ys refl)
+      | inr e ↦ rw (e, chunks (feed (record { number = r .number; state = r .state; held = r .held; over = false }) x .next) xs ys, append-assoc)
+    ]

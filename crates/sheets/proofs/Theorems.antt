@@ -1,0 +1,1 @@
+-- What is shown of reading a sheet. Assumes nothing.
