@@ -63,12 +63,19 @@ unfolding feedAll
 rests r [] e = refl
 rests r (x ∷ xs) e = rw e
 
+-- one that is not over goes on
+pub goes-on : (r : Reader) (x : ℕ) (xs : List ℕ) → r .over ≡ false → feedAll r (x ∷ xs) ≡ record { printed = feed r x .printed ++ feedAll (feed r x .next) xs .printed; next = feedAll (feed r x .next) xs .next }
+unfolding feedAll
+goes-on r x xs e = rw e
+
 -- reading in chunks
 pub chunks : (r : Reader) (xs ys : List ℕ) → feedAll r (xs ++ ys) ≡ record { printed = feedAll r xs .printed ++ feedAll (feedAll r xs .next) ys .printed; next = feedAll (feedAll r xs .next) ys .next }
 unfolding feedAll
 chunks r [] ys = refl
 chunks r (x ∷ xs) ys =
     elim (value (r .over)) [
-      | inl e ↦ rests r (x ∷ (xs ++ ys)) e ∙ rw (e, rests (record { number = r .number; state = r .state; held = r .held; over = true }) ys refl)
-      | inr e ↦ rw (e, chunks (feed (record { number = r .number; state = r .state; held = r .held; over = false }) x .next) xs ys, append-assoc)
+      | inl e ↦ rw (rests r (x ∷ (xs ++ ys)) e, rests r (x ∷ xs) e, rests r ys e)
+      | inr e ↦ rw (goes-on r x (xs ++ ys) e, goes-on r x xs e, chunks (feed r x .next) xs ys, append-assoc)
     ]
+
+-- without a newline the line is not ended
