@@ -78,4 +78,62 @@ chunks r (x ∷ xs) ys =
       | inr e ↦ rw (goes-on r x (xs ++ ys) e, goes-on r x xs e, chunks (feed r x .next) xs ys, append-assoc)
     ]
 
--- without a newline the line is not ended
+-- what a reader prints of the rest of a sheet
+abbrev pub readOn : Reader → List ℕ → List ℕ
+readOn r xs = feedAll r xs .printed ++ finish (feedAll r xs .next)
+
+abbrev reading : ℕ → State → List ℕ → Bool → Reader
+reading n t xs b = record { number = n; state = t; held = xs; over = b }
+
+-- a byte, and then the rest
+read-more : (r : Reader) (x : ℕ) (xs : List ℕ) → r .over ≡ false → readOn r (x ∷ xs) ≡ feed r x .printed ++ readOn (feed r x .next) xs
+read-more r x xs e = rw (goes-on r x xs e, append-assoc)
+
+-- at the end of the sheet: what is held is a line that is not ended
+at-last : (n : ℕ) (t : State) (xs : List ℕ) → Unbroken xs → answers n t (linesOf xs) ≡ readOn (reading n t xs false) []
+unfolding linesOf answers lineStep feedAll finish lastLine
+at-last n t [] u = refl
+at-last n t (x ∷ xs) u = rw (lines-unended x xs u, append-nil)
+
+-- after a line that prints p, and ends the run or not
+after-line : (p : List ℕ) (n : ℕ) (t : State) (b : Bool) (xs : List ℕ) → answers n t (linesOf xs) ≡ readOn (reading n t [] false) xs → p ++ cond b [] (answers n t (linesOf xs)) ≡ p ++ readOn (reading n t [] b) xs
+unfolding finish
+after-line p n t true xs e = rw (rests (reading n t [] true) xs refl)
+after-line p n t false xs e = rw e
+
+module _ (long : (xs : List ℕ) → 20 < length xs → command xs ≡ Malformed) where
+  -- a line of more than 20 bytes is bad, ended or not
+  long-line : (n : ℕ) (t : State) (l : Line) → 20 < length (l .text) → lineStep n t l ≡ badLine n t
+  unfolding lineStep commandStep
+  long-line n t l h =
+      elim (value (l .ended && leb n 65535)) [
+        | inl e ↦ rw (e, long (l .text) h)
+        | inr e ↦ rw e
+      ]
+
+  long-answers : (m n : ℕ) (t : State) (ls : List Line) → 20 < m → FirstHas m ls → answers n t ls ≡ line lineWord n
+  unfolding FirstHas answers
+  long-answers m n t [] g h = absurd (omega (arith, g, h))
+  long-answers m n t (l ∷ ls) g h = rw (long-line n t l (omega (arith, g, h)), append-nil)
+
+  -- what a reader prints that holds at most 20 bytes without a newline
+  pub reads : (n : ℕ) (t : State) (h xs : List ℕ) → Unbroken h → length h ≤ 20 → answers n t (linesOf (h ++ xs)) ≡ readOn (reading n t h false) xs
+  unfolding Unbroken answers feed finish
+  reads n t h [] u l = rw append-nil (at-last n t h u)
+  reads n t h (x ∷ xs) u l =
+      rw (read-more (reading n t h false) x xs refl)
+      (elim (value (eqb x 10)) [
+        | inl e ↦
+            let s = lineStep n t (record { text = h; ended = true }) in
+            rw (e, lines-ended h x xs u e)
+            (after-line (s .printed) (suc n) (s .next) (s .ends) xs (reads (suc n) (s .next) [] xs tt (omega arith)))
+        | inr e ↦
+            elim (value (leb 20 (length h))) [
+              | inl m ↦
+                  rw (e, m, rests (reading n t h true) xs refl, append-nil, ← append-assoc h (x ∷ []) xs)
+                  (long-answers (length (h ++ (x ∷ []))) n t (linesOf (h ++ (x ∷ []) ++ xs)) (rw length-append (omega (arith, leb-true 20 (length h) m))) (first-has (h ++ (x ∷ [])) xs (unbroken-more h x u e)))
+              | inr m ↦
+                  rw (e, m, ← append-assoc h (x ∷ []) xs)
+                  (reads n t (h ++ (x ∷ [])) xs (unbroken-more h x u e) (rw length-append (omega (arith, leb-false 20 (length h) m))))
+            ]
+      ])
