@@ -1,9 +1,9 @@
 -- The lines of a text, and what a reader holds of them. Assumes nothing.
-use mathlib.Core.Path.{_≡_, refl, sym, ap, _∙_}
+use mathlib.Core.Path.{_≡_, refl}
 use mathlib.Core.Logic.{inl, inr}
 use mathlib.Core.Bool.{Bool, true, false, cond, _&&_}
 use mathlib.Core.List.{List, [], _∷_, _++_, append-nil, append-assoc}
-use Prim.Native.Nat.{ℕ, suc, _+_, _≤_, _<_}
+use Prim.Native.Nat.{ℕ, suc, _≤_, _<_}
 use native.Mathlib.Omega.{arith}
 use borrow.Author.Tests.{leb-true, leb-false}
 use lib.Dec.{leb, eqb}
@@ -12,33 +12,33 @@ use Rattle.words.specs.declared.Command.the-variants.{Malformed}
 use Rattle.words.specs.Words.{command}
 use Rattle.prints.specs.Prints.{line, lineWord}
 use Rattle.mesh.proofs.Bools.{value}
-use Rattle.sheets.specs.Sheet.{Line, before, linesOf, State, badLine, commandStep, lineStep, atEnd, answers}
-use Rattle.sheets.specs.Reader.{Reader, Fed, feed, feedAll, lastLine, finish}
+use Rattle.sheets.specs.Sheet.{Line, before, linesOf, State, badLine, commandStep, lineStep, answers}
+use Rattle.sheets.specs.Reader.{Reader, feed, feedAll, lastLine, finish}
 
 -- bytes without a newline
 unfoldable pub Unbroken : List ℕ → Type 0
 Unbroken [] = Unit
 Unbroken (x ∷ xs) = (eqb x 10 ≡ false) × Unbroken xs
 
-pub unbroken-more : (xs : List ℕ) (x : ℕ) → Unbroken xs → eqb x 10 ≡ false → Unbroken (xs ++ (x ∷ []))
+unbroken-more : (xs : List ℕ) (x : ℕ) → Unbroken xs → eqb x 10 ≡ false → Unbroken (xs ++ (x ∷ []))
 unfolding Unbroken
 unbroken-more [] x u e = (e, tt)
 unbroken-more (y ∷ xs) x u e = (u .0, unbroken-more xs x (u .1) e)
 
 -- a newline ends the line before it
-pub lines-ended : (xs : List ℕ) (x : ℕ) (ys : List ℕ) → Unbroken xs → eqb x 10 ≡ true → linesOf (xs ++ (x ∷ ys)) ≡ record { text = xs; ended = true } ∷ linesOf ys
+lines-ended : (xs : List ℕ) (x : ℕ) (ys : List ℕ) → Unbroken xs → eqb x 10 ≡ true → linesOf (xs ++ (x ∷ ys)) ≡ record { text = xs; ended = true } ∷ linesOf ys
 unfolding Unbroken linesOf before
 lines-ended [] x ys u e = rw e
 lines-ended (y ∷ xs) x ys u e = rw (u .0, lines-ended xs x ys (u .1) e)
 
 -- without one there is one line, not ended
-pub lines-unended : (x : ℕ) (xs : List ℕ) → Unbroken (x ∷ xs) → linesOf (x ∷ xs) ≡ record { text = x ∷ xs; ended = false } ∷ []
+lines-unended : (x : ℕ) (xs : List ℕ) → Unbroken (x ∷ xs) → linesOf (x ∷ xs) ≡ record { text = x ∷ xs; ended = false } ∷ []
 unfolding Unbroken linesOf before
 lines-unended x [] u = rw (u .0)
 lines-unended x (y ∷ xs) u = rw (u .0, lines-unended y xs (u .1))
 
 -- the first line has n bytes or more
-unfoldable pub FirstHas : ℕ → List Line → Type 0
+unfoldable FirstHas : ℕ → List Line → Type 0
 FirstHas n [] = n ≤ 0
 FirstHas n (l ∷ ls) = n ≤ length (l .text)
 
@@ -52,7 +52,7 @@ unfolding FirstHas before
 first-more n x [] h = omega (arith, h)
 first-more n x (l ∷ ls) h = omega (arith, h)
 
-pub first-has : (xs ys : List ℕ) → Unbroken xs → FirstHas (length xs) (linesOf (xs ++ ys))
+first-has : (xs ys : List ℕ) → Unbroken xs → FirstHas (length xs) (linesOf (xs ++ ys))
 unfolding Unbroken linesOf
 first-has [] ys u = first-none (linesOf ys)
 first-has (x ∷ xs) ys u = rw (u .0) (first-more (length xs) x (linesOf (xs ++ ys)) (first-has xs ys (u .1)))
@@ -101,6 +101,7 @@ unfolding finish
 after-line p n t true xs e = rw (rests (reading n t [] true) xs refl)
 after-line p n t false xs e = rw e
 
+-- Given that no line of more than 20 bytes is well-formed (Theorems says where that is proved):
 module _ (long : (xs : List ℕ) → 20 < length xs → command xs ≡ Malformed) where
   -- a line of more than 20 bytes is bad, ended or not
   long-line : (n : ℕ) (t : State) (l : Line) → 20 < length (l .text) → lineStep n t l ≡ badLine n t
@@ -128,12 +129,15 @@ module _ (long : (xs : List ℕ) → 20 < length xs → command xs ≡ Malformed
             rw (e, lines-ended h x xs u e)
             (after-line (s .printed) (suc n) (s .next) (s .ends) xs (reads (suc n) (s .next) [] xs tt (omega arith)))
         | inr e ↦
+            let h′ = h ++ (x ∷ []) in
+            let u′ = unbroken-more h x u e in
             elim (value (leb 20 (length h))) [
               | inl m ↦
+                  let g : 20 < length h′ = rw length-append (omega (arith, leb-true 20 (length h) m)) in
                   rw (e, m, rests (reading n t h true) xs refl, append-nil, ← append-assoc h (x ∷ []) xs)
-                  (long-answers (length (h ++ (x ∷ []))) n t (linesOf (h ++ (x ∷ []) ++ xs)) (rw length-append (omega (arith, leb-true 20 (length h) m))) (first-has (h ++ (x ∷ [])) xs (unbroken-more h x u e)))
+                  (long-answers (length h′) n t (linesOf (h′ ++ xs)) g (first-has h′ xs u′))
               | inr m ↦
                   rw (e, m, ← append-assoc h (x ∷ []) xs)
-                  (reads n t (h ++ (x ∷ [])) xs (unbroken-more h x u e) (rw length-append (omega (arith, leb-false 20 (length h) m))))
+                  (reads n t h′ xs u′ (rw length-append (omega (arith, leb-false 20 (length h) m))))
             ]
       ])
