@@ -3,15 +3,16 @@
 use mathlib.Core.Bool.{Bool, true, false, cond, _&&_}
 use mathlib.Core.List.{List, [], _∷_}
 use Prim.Native.Nat.{ℕ, zero, suc, _+_, _-_, _*_}
-use lib.Dec.{leb, ltb, eqb}
+use lib.Dec.{leb, eqb}
 use lib.ListN.{drop}
 use Rattle.words.specs.declared.Command.{Command}
 use Rattle.words.specs.declared.Command.the-variants.{Mesh, Fault, Send, Malformed}
+use Rattle.mesh.specs.declared.Place.{Place}
 use Rattle.mesh.specs.Packets.{place}
 
 -- 0 to 9
 unfoldable pub isDigit : ℕ → Bool
-isDigit x = leb 48 x && ltb x 58
+isDigit x = leb 48 x && leb x 57
 
 -- a number and what follows it, or none
 pub data Number : Type 0 where
@@ -67,30 +68,32 @@ faultWord = 102 ∷ 97 ∷ 117 ∷ 108 ∷ 116 ∷ []
 abbrev pub sendWord : List ℕ
 sendWord = 115 ∷ 101 ∷ 110 ∷ 100 ∷ []
 
--- two numbers and nothing else
+-- two numbers with nothing after them
+unfoldable pub ended : Two → Two
+ended none = none
+ended (some a b []) = some a b []
+ended (some a b (x ∷ xs)) = none
+
 unfoldable pub sizes : Two → Command
 sizes none = Malformed
-sizes (some a b []) = Mesh a b
-sizes (some a b (x ∷ xs)) = Malformed
+sizes (some a b xs) = Mesh a b
 
 unfoldable pub fault : Two → Command
 fault none = Malformed
-fault (some r c []) = Fault (place r c)
-fault (some r c (x ∷ xs)) = Malformed
+fault (some r c xs) = Fault (place r c)
 
--- and two more and nothing else
-unfoldable pub sendTo : ℕ → ℕ → Two → Command
-sendTo r c none = Malformed
-sendTo r c (some R C []) = Send (place r c) (place R C)
-sendTo r c (some R C (x ∷ xs)) = Malformed
+unfoldable pub sendTo : Place → Two → Command
+sendTo p none = Malformed
+sendTo p (some r c xs) = Send p (place r c)
 
+-- two numbers, and two more after them
 unfoldable pub send : Two → Command
 send none = Malformed
-send (some r c xs) = sendTo r c (two xs)
+send (some r c xs) = sendTo (place r c) (ended (two xs))
 
 -- what a line says
 unfoldable pub command : List ℕ → Command
 command xs =
-    cond (begins meshWord xs) (sizes (two (drop 4 xs)))
-    (cond (begins faultWord xs) (fault (two (drop 5 xs)))
+    cond (begins meshWord xs) (sizes (ended (two (drop 4 xs))))
+    (cond (begins faultWord xs) (fault (ended (two (drop 5 xs))))
     (cond (begins sendWord xs) (send (two (drop 4 xs))) Malformed))

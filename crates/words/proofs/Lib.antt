@@ -1,0 +1,5 @@
+pub mod Digits
+pub mod Spelling
+pub mod Begins
+pub mod Commands
+pub mod Lengths
