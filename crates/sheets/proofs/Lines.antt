@@ -101,7 +101,7 @@ unfolding finish
 after-line p n t true xs e = rw (rests (reading n t [] true) xs refl)
 after-line p n t false xs e = rw e
 
--- Given that no line of more than 20 bytes is well-formed (Theorems says where that is proved):
+-- Given that no line of more than 20 bytes is well-formed (words, `long-malformed`):
 module _ (long : (xs : List ℕ) → 20 < length xs → command xs ≡ Malformed) where
   -- a line of more than 20 bytes is bad, ended or not
   long-line : (n : ℕ) (t : State) (l : Line) → 20 < length (l .text) → lineStep n t l ≡ badLine n t

@@ -2,11 +2,9 @@
 use mathlib.Core.Path.{_≡_}
 use mathlib.Core.Bool.{true}
 use mathlib.Core.List.{List, [], _++_}
-use Prim.Native.Nat.{ℕ, _<_}
+use Prim.Native.Nat.{ℕ}
 use native.Mathlib.Omega.{arith}
-use lib.ListN.{length}
-use Rattle.words.specs.declared.Command.the-variants.{Malformed}
-use Rattle.words.specs.Words.{command}
+use Rattle.words.proofs.Lengths.{long-malformed}
 use Rattle.sheets.specs.Sheet.{nothing, sheet}
 use Rattle.sheets.specs.Reader.{Reader, begun, feedAll, finish}
 use Rattle.sheets.proofs.Lines.{Unbroken, rests, chunks, reads}
@@ -19,9 +17,7 @@ over-rests = rests
 pub feed-chunks : (r : Reader) (xs ys : List ℕ) → feedAll r (xs ++ ys) ≡ record { printed = feedAll r xs .printed ++ feedAll (feedAll r xs .next) ys .printed; next = feedAll (feedAll r xs .next) ys .next }
 feed-chunks = chunks
 
--- `long` is to be `long-malformed` of Rattle.words.proofs.Lengths
-module _ (long : (xs : List ℕ) → 20 < length xs → command xs ≡ Malformed) where
-  -- the bytes of a sheet in turn, and its end, print what is defined
-  pub read-is-sheet : (xs : List ℕ) → sheet xs ≡ feedAll begun xs .printed ++ finish (feedAll begun xs .next)
-  unfolding sheet Unbroken
-  read-is-sheet xs = reads long 1 nothing [] xs tt (omega arith)
+-- the bytes of a sheet in turn, and its end, print what is defined
+pub read-is-sheet : (xs : List ℕ) → sheet xs ≡ feedAll begun xs .printed ++ finish (feedAll begun xs .next)
+unfolding sheet Unbroken
+read-is-sheet xs = reads long-malformed 1 nothing [] xs tt (omega arith)
