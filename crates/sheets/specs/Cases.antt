@@ -12,7 +12,7 @@ use Rattle.mesh.specs.Refusals.{badSize, some, misplacedAt, misplaced, offMesh,
 use Rattle.mesh.specs.Operations.{hopsOf}
 use Rattle.mesh.specs.Cases.{bytes}
 use Rattle.route.specs.Marked.{requestRefusals}
-use Rattle.words.specs.Words.{isDigit, more, number, spaced, second, first, two, begins, sizes, fault, sendTo, send, command}
+use Rattle.words.specs.Words.{isDigit, more, number, spaced, second, first, two, ended, begins, sizes, fault, sendTo, send, command}
 use Rattle.prints.specs.Prints.{digits, decimal, line, spacedLetters, okLine}
 use Rattle.sheets.specs.Sheet.{before, linesOf, meshLine, faultLine, answerOf, sendAnswer, blocksLine, isMisplaced, sendLine, commandStep, lineStep, atEnd, answers, sheet}
 
@@ -44,5 +44,5 @@ cases =
     []
 
 pub cases-print : T (allPrint cases)
-unfolding cases allPrint isMisplaced bytes sameList onMesh isBad bad ahead upright ruleA ruleB unsafe become advance round settle run corner blockAt select blocks reaches onRing onSomeRing allowed turnsWest blocked side toward own stopped again atDestination inRow leaving across nearing otherRow hop rowAfter columnAfter letter letters moved arrived hopAt walk shutIn distance detours bound badSize some misplacedAt misplaced offMesh inBlock onARing unserved placeRefusals hopsOf requestRefusals isDigit more number spaced second first two begins sizes fault sendTo send command digits decimal line spacedLetters okLine before linesOf meshLine faultLine answerOf sendAnswer blocksLine sendLine commandStep lineStep atEnd answers sheet
+unfolding cases allPrint isMisplaced bytes sameList onMesh isBad bad ahead upright ruleA ruleB unsafe become advance round settle run corner blockAt select blocks reaches onRing onSomeRing allowed turnsWest blocked side toward own stopped again atDestination inRow leaving across nearing otherRow hop rowAfter columnAfter letter letters moved arrived hopAt walk shutIn distance detours bound badSize some misplacedAt misplaced offMesh inBlock onARing unserved placeRefusals hopsOf requestRefusals isDigit more number spaced second first two ended begins sizes fault sendTo send command digits decimal line spacedLetters okLine before linesOf meshLine faultLine answerOf sendAnswer blocksLine sendLine commandStep lineStep atEnd answers sheet
 cases-print = tt
