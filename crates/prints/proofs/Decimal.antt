@@ -52,7 +52,7 @@ decimal-more n h =
     digits-more n n [] h ∙ digits-fuel n (suc (n / 10)) (n / 10) (d ∷ []) (omega arith) (omega arith) ∙
     digits-rest (suc (n / 10)) (n / 10) (d ∷ [])
 
-decimal-under : (n : ℕ) (k : ℕ) → n < 10 → length (decimal n) ≤ suc k
+decimal-under : (n k : ℕ) → n < 10 → length (decimal n) ≤ suc k
 decimal-under n k l = rw (decimal-one n l) (omega arith)
 
 pub decimal-few : (k n : ℕ) → n < 10 ^ suc k → length (decimal n) ≤ suc k

@@ -1,5 +1,4 @@
 -- A space before the letters, if there are any. Assumes nothing.
-use borrow.Author.Needs.{needs}
 use native.Mathlib.Omega.{arith}
 use Rattle.prints.proofs.Lines.{puts-no-letters, puts-letters}
 use Rattle.prints.proofs.put_letters.Statement.{statement}
@@ -9,13 +8,13 @@ returns : tie.Need-returns
 returns c = puts-no-letters _ _ _ (c .if1 .taken)
 
 put-byte-requires : tie.Need-put-byte-requires
-put-byte-requires c κs = search needs
+put-byte-requires c κs = omega arith
 
 put-requires : tie.Need-put-requires
-put-requires c κs = search needs
+put-requires c κs = omega arith
 
 same-length : tie.Need-same-length
-same-length c = search needs
+same-length c = omega arith
 
 returns-2 : tie.Need-returns-2
 returns-2 c = puts-letters _ (omega arith) (c .before .before .before .before .before .before .put-byte .ensures) (c .before .before .put .ensures)

@@ -1,5 +1,4 @@
 -- The word, the number, the newline. Assumes nothing.
-use borrow.Author.Needs.{needs}
 use native.Mathlib.Omega.{arith}
 use Rattle.prints.proofs.Decimal.{decimal-length}
 use Rattle.prints.proofs.Lines.{puts-line}
@@ -7,16 +6,16 @@ use Rattle.prints.proofs.put_line.Statement.{statement}
 use Rattle.prints.proofs.put_line.Tie as tie
 
 put-requires : tie.Need-put-requires
-put-requires c κs = search needs
+put-requires c κs = omega arith
 
 put-number-requires : tie.Need-put-number-requires
-put-number-requires c κs = search needs
+put-number-requires c κs = omega arith
 
 put-byte-requires : tie.Need-put-byte-requires
 put-byte-requires c κs = omega (arith, decimal-length _ (c .before .before .before .before .before .before .before .before .before .before .before .pre .0))
 
 same-length : tie.Need-same-length
-same-length c = search needs
+same-length c = omega arith
 
 returns : tie.Need-returns
 returns c = puts-line _ _ (c .before .before .before .before .before .before .before .before .before .before .put .ensures) (c .before .before .before .before .before .before .put-number .ensures) (c .before .before .put-byte .ensures)
