@@ -13,13 +13,20 @@ ghost use Rattle.buffers.specs.Over.{Puts};
 ghost use Rattle.sheets.specs.Sheet.{sendAnswer, meshLine, faultLine, sendLine, lineStep};
 ghost use Rattle.sheets.specs.declared.Phase.the-variants.{Start, Faults};
 ghost use Rattle.sheets.specs.Keeping.{stateOf, MapReady, Ready, markedMesh, Sendable, Opens, ended, Answers, StepsMap, Cleared};
-
-use maps::{has_misplaced, is_bad_size};
-use marking::{count_blocks, mark};
-use mesh::{Place, Refusal, Routed};
-use prints::{put_bad_line, put_blocks, put_no, put_ok};
+use maps::has_misplaced;
+use maps::is_bad_size;
+use marking::count_blocks;
+use marking::mark;
+use mesh::Place;
+use mesh::Refusal;
+use mesh::Routed;
+use prints::put_bad_line;
+use prints::put_blocks;
+use prints::put_no;
+use prints::put_ok;
 use route::route_marked;
-use words::{Command, read_command};
+use words::Command;
+use words::read_command;
 
 // How far a sheet has come: its mesh line, its faults, its sends.
 pub enum Phase {
@@ -101,7 +108,11 @@ fn bad_line(sheet: Sheet, number: u32, out: &mut [u8], at: usize) -> Answered
     ensures { λ x. ⌜ (x .sheet ≡ sheet) × (x .ends ≡ true) × Puts (now (out .entry)) at (line lineWord number) (x .at) (now (out .exit)) ⌝ }
 {
     let next = put_bad_line(out, at, number);
-    Answered { sheet, at: next, ends: true }
+    Answered {
+        sheet,
+        at: next,
+        ends: true,
+    }
 }
 
 // A refusal that ends the run: no NUMBER.
@@ -110,7 +121,11 @@ fn refuse(sheet: Sheet, n: u32, out: &mut [u8], at: usize) -> Answered
     ensures { λ x. ⌜ (x .sheet ≡ sheet) × (x .ends ≡ true) × Puts (now (out .entry)) at (line noWord n) (x .at) (now (out .exit)) ⌝ }
 {
     let next = put_no(out, at, n);
-    Answered { sheet, at: next, ends: true }
+    Answered {
+        sheet,
+        at: next,
+        ends: true,
+    }
 }
 
 // No fault yet on any of the first n nodes.
@@ -145,8 +160,16 @@ fn first_line(
     }
     let n = columns * rows;
     clear(map, n as usize);
-    let next = Sheet { phase: Phase::Faults, columns, rows };
-    Answered { sheet: next, at, ends: false }
+    let next = Sheet {
+        phase: Phase::Faults,
+        columns,
+        rows,
+    };
+    Answered {
+        sheet: next,
+        at,
+        ends: false,
+    }
 }
 
 // mesh COLUMNS ROWS
@@ -171,7 +194,14 @@ fn mesh_line(
 }
 
 // A fault on the mesh.
-fn set_fault(sheet: Sheet, number: u32, p: Place, map: &mut [u8], out: &mut [u8], at: usize) -> Answered
+fn set_fault(
+    sheet: Sheet,
+    number: u32,
+    p: Place,
+    map: &mut [u8],
+    out: &mut [u8],
+    at: usize,
+) -> Answered
     requires { ⌜ MapReady sheet (now map) × (sheet .phase ≡ Faults) × (number < 100000) × (at + 24730 ≤ length (now out)) ⌝ }
     ensures { λ x. ⌜ StepsMap (faultLine Faults number (stateOf sheet (now (map .entry))) p) (now (out .entry)) at x (now (map .exit)) (now (out .exit)) ⌝ }
 {
@@ -189,11 +219,22 @@ fn set_fault(sheet: Sheet, number: u32, p: Place, map: &mut [u8], out: &mut [u8]
     }
     let i = row * columns + column;
     map[i as usize] = 1;
-    Answered { sheet, at, ends: false }
+    Answered {
+        sheet,
+        at,
+        ends: false,
+    }
 }
 
 // fault ROW COLUMN
-fn fault_line(sheet: Sheet, number: u32, p: Place, map: &mut [u8], out: &mut [u8], at: usize) -> Answered
+fn fault_line(
+    sheet: Sheet,
+    number: u32,
+    p: Place,
+    map: &mut [u8],
+    out: &mut [u8],
+    at: usize,
+) -> Answered
     requires { ⌜ MapReady sheet (now map) × (number < 100000) × (at + 24730 ≤ length (now out)) ⌝ }
     ensures { λ x. ⌜ StepsMap (faultLine (sheet .phase) number (stateOf sheet (now (map .entry))) p) (now (out .entry)) at x (now (map .exit)) (now (out .exit)) ⌝ }
 {
@@ -220,8 +261,16 @@ fn open_sends(sheet: Sheet, map: &[u8], marks: &mut [u8], out: &mut [u8], at: us
     mark(columns, rows, &map[..n], &mut marks[..n]);
     let k = count_blocks(columns, rows, &marks[..n]);
     let next = put_blocks(out, at, k);
-    let sends = Sheet { phase: Phase::Sends, columns, rows };
-    Answered { sheet: sends, at: next, ends: false }
+    let sends = Sheet {
+        phase: Phase::Sends,
+        columns,
+        rows,
+    };
+    Answered {
+        sheet: sends,
+        at: next,
+        ends: false,
+    }
 }
 
 // A send on a marking already made.
@@ -240,7 +289,16 @@ fn next_send(
     let columns = sheet.columns;
     let rows = sheet.rows;
     let size = columns * rows;
-    answer_send(columns, rows, &marks[..size as usize], s, d, letters, out, at)
+    answer_send(
+        columns,
+        rows,
+        &marks[..size as usize],
+        s,
+        d,
+        letters,
+        out,
+        at,
+    )
 }
 
 // The first send: the marking and its blocks before the answer.
@@ -263,7 +321,11 @@ fn first_send(
     }
     let sends = opened.sheet;
     let next = next_send(sends, s, d, marks, letters, out, opened.at);
-    Answered { sheet: sends, at: next, ends: false }
+    Answered {
+        sheet: sends,
+        at: next,
+        ends: false,
+    }
 }
 
 // send ROW COLUMN ROW COLUMN
@@ -287,7 +349,11 @@ fn send_line(
         Phase::Faults => return first_send(sheet, s, d, map, marks, letters, out, at),
         Phase::Sends => {
             let next = next_send(sheet, s, d, marks, letters, out, at);
-            return Answered { sheet, at: next, ends: false };
+            return Answered {
+                sheet,
+                at: next,
+                ends: false,
+            };
         }
     }
 }
@@ -311,7 +377,15 @@ pub fn answer_line(
     }
     let command = read_command(text);
     match command {
-        Command::Mesh(columns, rows) => return mesh_line(sheet, number, columns, rows, map, out, at),
+        Command::Mesh(columns, rows) => return mesh_line(
+            sheet,
+            number,
+            columns,
+            rows,
+            map,
+            out,
+            at,
+        ),
         Command::Fault(p) => return fault_line(sheet, number, p, map, out, at),
         Command::Send(s, d) => return send_line(sheet, number, s, d, map, marks, letters, out, at),
         Command::Malformed => return bad_line(sheet, number, out, at),
