@@ -18,7 +18,7 @@ use Rattle.maps.specs.Sized.{Sized}
 use Rattle.buffers.specs.Over.{Puts}
 use Rattle.prints.specs.Prints.{line, noWord}
 use Rattle.sheets.specs.Sheet.{Line, State, Step, blocksLine, isMisplaced}
-use Rattle.sheets.specs.Reader.{Reader, Fed}
+use Rattle.sheets.specs.Reader.{Reader, begun, Fed, feedAll}
 
 -- the fault map of the sheet's mesh stands in the first places of a lent map
 abbrev pub mapOf : Sheet → List ℕ → List ℕ
@@ -107,3 +107,20 @@ pub record Feeds (f : Fed) (out : List ℕ) (at : ℕ) (x : Taken) (hold map mar
   pub puts : Puts out at (f .printed) (x .at) after
   pub next : readerOf (x .reader) hold map ≡ f .next
   pub reading : Reading (x .reader) hold map marks
+
+-- of bytes, as many as are told to be taken are taken as the definition says, and written from the start of out
+pub record FeedsSome (r : Reader) (bytes out : List ℕ) (x : Taken) (hold map marks after : List ℕ) : Type 0 where
+  pub taken : x .taken ≤ length bytes
+  pub feeds : Feeds (feedAll r (take (x .taken) bytes)) out 0 x hold map marks after
+  pub room : x .at ≤ length out
+
+-- the end can be told
+pub record Finishing (r : Held) (map marks : List ℕ) : Type 0 where
+  pub short : r .held ≤ 20
+  pub few : r .over ≡ false → r .number ≤ 65536
+  pub ready : r .over ≡ false → Ready (r .sheet) map marks
+
+-- the reader of a sheet of which nothing is read yet
+pub record Begins (r : Held) : Type 0 where
+  pub begins : (hold map : List ℕ) → readerOf r hold map ≡ begun
+  pub reading : (hold map marks : List ℕ) → 20 ≤ length hold → 4096 ≤ length map → 4096 ≤ length marks → Reading r hold map marks

@@ -1,0 +1,83 @@
+-- The end of a sheet, case by case. Assumes nothing.
+use mathlib.Core.Path.{_≡_, refl, sym, ap, _∙_}
+use mathlib.Core.Bool.{Bool, true, false, cond}
+use mathlib.Core.List.{List, [], _∷_, _++_}
+use Prim.Native.Nat.{ℕ, zero, suc, _+_, _≤_, _<_}
+use native.Mathlib.Nat.{add-zero}
+use native.Mathlib.Omega.{arith}
+use lib.ListN.{length, take}
+use Rattle.sheets.specs.declared.Phase.{Phase}
+use Rattle.sheets.specs.declared.Phase.the-variants.{Start, Faults, Sends}
+use Rattle.sheets.specs.declared.Answered.{Answered}
+use Rattle.sheets.specs.declared.Reader.{Reader as Held}
+use Rattle.buffers.specs.Over.{over, Puts}
+use Rattle.prints.specs.Prints.{line, lineWord}
+use Rattle.sheets.specs.Sheet.{blocksLine, isMisplaced, atEnd}
+use Rattle.sheets.specs.Reader.{Reader, begun, lastLine, finish}
+use Rattle.sheets.specs.Keeping.{stateOf, readerOf, Opens}
+
+pub puts-none : (out : List ℕ) (at : ℕ) → Puts out at [] at out
+unfolding over
+puts-none out at = record { next = omega arith; stands = refl }
+
+last-held : (r : Reader) (k : ℕ) (hold : List ℕ) → 0 < k → 0 < length hold → lastLine r (take k hold) ≡ line lineWord (r .number)
+unfolding lastLine
+last-held r zero hold p q = absurd (omega arith)
+last-held r (suc k) [] p q = absurd (omega arith)
+last-held r (suc k) (x ∷ xs) p q = refl
+
+last-none : (r : Reader) (k : ℕ) (hold : List ℕ) → k ≡ 0 → lastLine r (take k hold) ≡ atEnd (r .state .phase) (r .number) (r .state)
+unfolding lastLine
+last-none r zero hold e = refl
+last-none r (suc k) hold e = absurd (omega arith)
+
+module _ (r : Held) (map hold : List ℕ) where
+  over-end : r .over ≡ true → finish (readerOf r hold map) ≡ []
+  unfolding finish
+  over-end e = rw e
+
+  held-end : r .over ≡ false → 0 < r .held → 20 ≤ length hold → finish (readerOf r hold map) ≡ line lineWord (r .number)
+  unfolding finish
+  held-end on h room =
+      ap (λ b. cond b [] (lastLine (readerOf r hold map) (take (r .held) hold))) on ∙
+      last-held (readerOf r hold map) (r .held) hold h (omega arith)
+
+  none-end : r .over ≡ false → r .held ≤ 0 → finish (readerOf r hold map) ≡ atEnd (r .sheet .phase) (r .number) (stateOf (r .sheet) map)
+  unfolding finish
+  none-end on h =
+      ap (λ b. cond b [] (lastLine (readerOf r hold map) (take (r .held) hold))) on ∙
+      last-none (readerOf r hold map) (r .held) hold (omega arith)
+
+  module _ (out : List ℕ) (at : ℕ) where
+    pub finish-over : r .over ≡ true → Puts out at (finish (readerOf r hold map)) at out
+    finish-over e = rw (over-end e) (puts-none out at)
+
+    pub finish-held : {x : ℕ} {after : List ℕ} → r .over ≡ false → 0 < r .held → Puts out at (line lineWord (r .number)) x after → 20 ≤ length hold → Puts out at (finish (readerOf r hold map)) x after
+    finish-held on h p room = rw (held-end on h room) p
+
+    module _ (on : r .over ≡ false) (none : r .held ≤ 0) where
+      pub finish-start : {x : ℕ} {after : List ℕ} → r .sheet .phase ≡ Start → Puts out at (line lineWord (r .number)) x after → Puts out at (finish (readerOf r hold map)) x after
+      unfolding atEnd
+      finish-start e p = rw (none-end on none, e) p
+
+      pub finish-faults : {a : Answered} {marks after : List ℕ} → r .sheet .phase ≡ Faults → Opens (r .sheet) map out at a marks after → Puts out at (finish (readerOf r hold map)) (a .at) after
+      unfolding atEnd isMisplaced blocksLine
+      finish-faults e o = rw (none-end on none, e) (o .puts)
+
+      pub finish-sends : r .sheet .phase ≡ Sends → Puts out at (finish (readerOf r hold map)) at out
+      unfolding atEnd
+      finish-sends e = rw (none-end on none, e) (puts-none out at)
+
+-- the phases differ
+place : Phase → ℕ
+place Start = 0
+place Faults = 1
+place Sends = 2
+
+pub start-sends : {A : Type 0} {p : Phase} → p ≡ Start → p ≡ Sends → A
+unfolding place
+start-sends e f = let z : _≡_ {A = ℕ} 0 2 = sym (ap place e) ∙ ap place f in absurd (omega arith)
+
+pub faults-sends : {A : Type 0} {p : Phase} → p ≡ Faults → p ≡ Sends → A
+unfolding place
+faults-sends e f = let z : _≡_ {A = ℕ} 1 2 = sym (ap place e) ∙ ap place f in absurd (omega arith)
