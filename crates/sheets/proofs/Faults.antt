@@ -123,6 +123,14 @@ module _ {s : Sheet} {map : List ℕ} (r : MapReady s map) {out after : List ℕ
     fault-column j k =
         rw (lt-ltb (q .row .0) (s .rows) j, le-ltb (q .column .0) (s .columns) k) (ending-steps h)
 
+-- the mesh line stands first, and the faults after it
+module _ {p : Phase} {out : List ℕ} {at : ℕ} {x : Answered} {map after : List ℕ} (number : ℕ) (t : State) where
+  pub mesh-first : (columns rows : ℕ) → p ≡ Start → StepsMap (meshLine Start number t columns rows) out at x map after → StepsMap (meshLine p number t columns rows) out at x map after
+  mesh-first columns rows e h = rw e h
+
+  pub fault-next : (q : Place) → p ≡ Faults → StepsMap (faultLine Faults number t q) out at x map after → StepsMap (faultLine p number t q) out at x map after
+  fault-next q e h = rw e h
+
 pub first-nodes : (columns rows : ℕ) {b d : Bool} → b ≡ badSize columns → b ≡ false → d ≡ badSize rows → d ≡ false → columns * rows ≤ 4096
 first-nodes columns rows e f g h =
     few-nodes columns rows (good-size columns (sym e ∙ f) .1) (good-size rows (sym g ∙ h) .1)

@@ -1,7 +1,7 @@
 -- fault ROW COLUMN. Assumes nothing.
 use borrow.Author.Needs.{needs}
 use mathlib.Core.Logic.{inl, inr}
-use Rattle.sheets.proofs.Faults.{fault-unready}
+use Rattle.sheets.proofs.Faults.{fault-unready, fault-next}
 use Rattle.sheets.proofs.fault_line.Statement.{statement}
 use Rattle.sheets.proofs.fault_line.Tie as tie
 
@@ -30,7 +30,7 @@ same-length-3 : tie.Need-same-length-3
 same-length-3 c = search needs
 
 returns-2 : tie.Need-returns-2
-returns-2 c = rw (c .before .before .before .before .before .before .before .enum-told2 .given .1) (c .before .before .before .before .set-fault .ensures)
+returns-2 c = fault-next _ _ _ (c .before .before .before .before .before .before .before .enum-told2 .given .1) (c .before .before .before .before .set-fault .ensures)
 
 enum-told-3 : tie.Need-enum-told-3
 enum-told-3 c = search needs

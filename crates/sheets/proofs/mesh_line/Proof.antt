@@ -1,7 +1,7 @@
 -- mesh COLUMNS ROWS. Assumes nothing.
 use borrow.Author.Needs.{needs}
 use mathlib.Core.Logic.{inl, inr}
-use Rattle.sheets.proofs.Faults.{mesh-late}
+use Rattle.sheets.proofs.Faults.{mesh-late, mesh-first}
 use Rattle.sheets.proofs.mesh_line.Statement.{statement}
 use Rattle.sheets.proofs.mesh_line.Tie as tie
 
@@ -18,7 +18,7 @@ same-length-2 : tie.Need-same-length-2
 same-length-2 c = search needs
 
 returns : tie.Need-returns
-returns c = rw (c .before .before .before .before .before .before .before .enum-told .given .1) (c .before .before .before .before .first-line .ensures _)
+returns c = mesh-first _ _ _ _ (c .before .before .before .before .before .before .before .enum-told .given .1) (c .before .before .before .before .first-line .ensures _)
 
 enum-told-2 : tie.Need-enum-told-2
 enum-told-2 c = search needs
