@@ -1,19 +1,19 @@
 -- The lines before the sends: what they keep of the map. Assumes nothing.
 use mathlib.Core.Path.{_≡_, refl, sym, ap, _∙_}
 use mathlib.Core.Logic.{_⊎_, inl, inr}
-use mathlib.Core.Bool.{Bool, true, false, cond, _&&_}
+use mathlib.Core.Bool.{Bool, true, false}
 use mathlib.Core.List.{List, [], _∷_, _++_}
 use Prim.Native.Nat.{ℕ, zero, suc, _+_, _*_, _≤_, _<_}
 use native.Mathlib.Numerals.{add-one}
 use native.Mathlib.Omega.{arith}
 use borrow.Author.Tests.{lt-ltb, le-ltb, eq-eqb}
-use lib.Dec.{ltb, eqb}
-use lib.ListN.{length, take, set, replicate, length-set, length-replicate}
+use lib.Dec.{ltb}
+use lib.ListN.{length, set, replicate, length-set, length-replicate}
 use lib.Seq.{take-set-lt, take-suc-set}
 use Rattle.mesh.specs.declared.Place.{Place}
-use Rattle.mesh.specs.Mesh.{mesh, onMesh}
+use Rattle.mesh.specs.Mesh.{onMesh}
 use Rattle.mesh.specs.Refusals.{badSize, badLength, some, badByte, offMesh}
-use Rattle.mesh.proofs.Bools.{true-false, and-intro, or-none}
+use Rattle.mesh.proofs.Bools.{true-false, or-none}
 use Rattle.mesh.proofs.Index.{index-within, few-nodes}
 use Rattle.mesh.proofs.Refusals.{good-size}
 use Rattle.buffers.specs.Over.{over, Puts}
@@ -22,7 +22,7 @@ use Rattle.sheets.specs.declared.Phase.{Phase}
 use Rattle.sheets.specs.declared.Phase.the-variants.{Start, Faults, Sends}
 use Rattle.sheets.specs.declared.Sheet.{Sheet}
 use Rattle.sheets.specs.declared.Answered.{Answered}
-use Rattle.sheets.specs.Sheet.{State, ending, badLine, meshLine, faultLine}
+use Rattle.sheets.specs.Sheet.{State, ending, meshLine, faultLine}
 use Rattle.sheets.specs.Keeping.{stateOf, NoFour, MapReady, Cleared, StepsMap}
 
 -- clearing a map
@@ -84,11 +84,12 @@ pub four-nodes : {columns rows : ℕ} {map : List ℕ} → NoFour columns rows m
 four-nodes {columns} {rows} f =
     few-nodes columns rows (good-size columns (f .good-columns) .1) (good-size rows (f .good-rows) .1)
 
--- a line that ends the run leaves the map
+-- a line that ends the run, and leaves the sheet
 abbrev pub Ends : Sheet → Answered → List ℕ → ℕ → List ℕ → List ℕ → Type 0
 Ends s x out at ys after = (x .sheet ≡ s) × (x .ends ≡ true) × Puts out at ys (x .at) after
 
 module _ {s : Sheet} {map : List ℕ} (r : MapReady s map) {out after : List ℕ} {at : ℕ} {x : Answered} where
+  -- the map is left too
   pub ending-steps : {ys : List ℕ} → Ends s x out at ys after → StepsMap (ending ys (stateOf s map)) out at x map after
   ending-steps (e, f, p) = record { puts = p; ends = f; next = rw e; ready = rw e r; faults = λ n. true-false f n }
 
