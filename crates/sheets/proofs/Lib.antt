@@ -2,3 +2,5 @@ pub mod Lines
 pub mod Faults
 pub mod Theorems
 pub mod Ends
+pub mod Answering
+pub mod Feeding

@@ -1,0 +1,81 @@
+-- A newline, a byte too many, or a byte to hold. Assumes nothing.
+use borrow.Author.Needs.{needs}
+use mathlib.Core.Path.{sym}
+use native.Mathlib.Omega.{arith}
+use lib.Seq.{length-take-le}
+use Rattle.sheets.proofs.Feeding.{feed-line, feed-long, feed-held}
+use Rattle.sheets.proofs.take_byte.Statement.{statement}
+use Rattle.sheets.proofs.take_byte.Tie as tie
+
+slice-reshare-prefix-answer-line : tie.Need-slice-reshare-prefix-answer-line
+slice-reshare-prefix-answer-line c = search needs
+
+slice-aggregate-answer-line : tie.Need-slice-aggregate-answer-line
+slice-aggregate-answer-line c = sym (length-take-le _ _ (omega (arith, c .before .before .before .before .before .before .before .before .pre .0 .short, c .before .before .before .before .before .before .before .before .pre .0 .room)))
+
+answer-line-requires : tie.Need-answer-line-requires
+answer-line-requires c κs = (c .before .before .before .before .before .before .before .before .before .before .before .before .pre .0 .ready (c .before .before .before .before .before .before .before .before .before .before .before .before .pre .1), omega (arith, c .before .before .before .before .before .before .before .before .before .before .before .before .pre .0 .few (c .before .before .before .before .before .before .before .before .before .before .before .before .pre .1)), c .before .before .before .before .before .before .before .before .before .before .before .before .pre .2, c .before .before .before .before .before .before .before .before .before .before .before .before .pre .3)
+
+add-t29 : tie.Need-add-t29
+add-t29 c = omega (arith, c .before .before .before .before .before .before .before .before .before .before .before .before .before .before .before .before .before .before .before .before .before .before .pre .0 .few (c .before .before .before .before .before .before .before .before .before .before .before .before .before .before .before .before .before .before .before .before .before .before .pre .1))
+
+same-length : tie.Need-same-length
+same-length c = search needs
+
+same-length-2 : tie.Need-same-length-2
+same-length-2 c = search needs
+
+same-length-3 : tie.Need-same-length-3
+same-length-3 c = search needs
+
+same-length-4 : tie.Need-same-length-4
+same-length-4 c = search needs
+
+same-length-5 : tie.Need-same-length-5
+same-length-5 c = search needs
+
+returns : tie.Need-returns
+returns c = feed-line _ _ _ _ _ _ _ (c .before .before .before .before .before .before .before .before .before .before .before .before .before .before .before .before .before .before .before .before .before .before .pre .0) (c .before .before .before .before .before .before .before .before .before .before .before .before .before .before .before .before .before .before .before .before .before .before .pre .1) (c .before .before .before .before .before .before .before .before .before .before .before .before .before .before .before .if1 .taken) (c .before .before .before .before .before .before .before .before .before .answer-line .ensures)
+
+put-bad-line-requires : tie.Need-put-bad-line-requires
+put-bad-line-requires c κs = (omega (arith, c .before .before .before .before .before .before .before .before .before .pre .0 .few (c .before .before .before .before .before .before .before .before .before .pre .1)), omega arith)
+
+same-length-6 : tie.Need-same-length-6
+same-length-6 c = search needs
+
+returns-2 : tie.Need-returns-2
+returns-2 c = feed-long _ _ _ _ _ _ _ (c .before .before .before .before .before .before .before .before .before .before .before .before .pre .0) (c .before .before .before .before .before .before .before .before .before .before .before .before .pre .1) (c .before .before .before .before .before .if1 .left) (c .before .before .before .before .if2 .taken) (c .before .before .put-bad-line .ensures)
+
+slice-write-hold : tie.Need-slice-write-hold
+slice-write-hold c = search needs
+
+add-t33 : tie.Need-add-t33
+add-t33 c = search needs
+
+same-length-7 : tie.Need-same-length-7
+same-length-7 c = search needs
+
+returns-3 : tie.Need-returns-3
+returns-3 c = feed-held _ _ _ _ _ _ _ (c .before .before .before .before .before .before .before .before .pre .0) (c .before .before .before .before .before .before .before .before .pre .1) (c .before .if1 .left) (c .if2 .left)
+
+pub take-byte-spec : {M : Type 1} → statement M
+take-byte-spec =
+    tie.close
+    (tie.spec
+    slice-reshare-prefix-answer-line
+    slice-aggregate-answer-line
+    answer-line-requires
+    add-t29
+    same-length
+    same-length-2
+    same-length-3
+    same-length-4
+    same-length-5
+    returns
+    put-bad-line-requires
+    same-length-6
+    returns-2
+    slice-write-hold
+    add-t33
+    same-length-7
+    returns-3)
