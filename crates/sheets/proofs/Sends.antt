@@ -87,7 +87,7 @@ module _ (columns rows : ℕ) (marks : List ℕ) (s d : Place) (fits : Sized col
       omega (arith, rw (rest-hops columns rows marks s d fits o q) at short)
 
   -- there is room for every route
-  no-tenth : requestRefusals (mesh columns rows marks) s d 0 ≡ 0 → cond (ltb (length out) (length (hopsOf (mesh columns rows marks) s d))) 10 0 ≡ 0
+  no-tenth : requestRefusals (mesh columns rows marks) s d 0 ≡ 0 → _≡_ {A = ℕ} (cond (ltb (length out) (length (hopsOf (mesh columns rows marks) s d))) 10 0) 0
   no-tenth clear =
       let fits : length (hopsOf (mesh columns rows marks) s d) ≤ length out = omega (arith, hops-few clear, room) in
       ap (λ b. cond b 10 0) (le-ltb _ _ fits)
@@ -170,7 +170,10 @@ pub blocks-few : (w : Mesh) → length (blocks w) ≤ w .columns * w .rows
 unfolding blocks
 blocks-few w = select-few _ _ (w .columns * w .rows) 0
 
--- what a marking is of, stands in marks
+pub count-few : (s : Sheet) {map : List ℕ} → MapReady s map → (s .phase ≡ Start → ⊥) → (marks : List ℕ) {k : ℕ} → k ≡ length (blocks (mesh (s .columns) (s .rows) marks)) → k < 100000
+count-few s m on marks e =
+    omega (arith, e, blocks-few (mesh (s .columns) (s .rows) marks), ready-few s m on)
+
 module _ (s : Sheet) {map marks : List ℕ} (m : Marked s map marks) where
   pub same-mesh : markedMesh s marks ≡ markedOf (stateOf s map)
   same-mesh = ap (mesh (s .columns) (s .rows)) (m .marking)
@@ -212,6 +215,9 @@ module _ (s : Sheet) {map : List ℕ} (m : MapReady s map) (f : s .phase ≡ Fau
 
   pub front : (rest : List ℕ) → take (s .columns * s .rows) (new ++ rest) ≡ new
   front rest = take-at new rest _ new-length
+
+  pub front-within : (rest : List ℕ) → s .columns * s .rows ≤ length (new ++ rest)
+  front-within rest = omega (arith, new-length, length-append new rest)
 
   pub front-sized : (rest : List ℕ) → Sized (s .columns) (s .rows) (take (s .columns * s .rows) (new ++ rest))
   front-sized rest =
@@ -263,8 +269,8 @@ module _ (s : Sheet) {map out : List ℕ} {at : ℕ} {x : Answered} {marks after
     first-room m f h =
         let q : isMisplaced (stateOf s map) ≡ false = sym (o .ends) ∙ e in
         let p = rw q at (o .puts) in
-        let few = blocks-few (markedOf (stateOf s map)) in
-        let short = line-length blocksWord (length (blocks (markedOf (stateOf s map)))) (omega (arith, few, ready-few s m (faults-on f))) in
+        let w = markedOf (stateOf s map) in
+        let short = line-length blocksWord (length (blocks w)) (count-few s m (faults-on f) (w .map) refl) in
         omega (arith, p .next, short, ap length (p .stands) ∙ over-length out at (blocksLine (stateOf s map)), h)
 
     pub first-sent : (from to : Place) {x′ : ℕ} {after′ : List ℕ} → Puts after (x .at) (sendAnswer (markedMesh (x .sheet) marks) from to) x′ after′ → (n : ℕ) → Answers (sendLine Faults n (stateOf s map) from to) out at (record { sheet = x .sheet; at = x′; ends = false }) map marks after′

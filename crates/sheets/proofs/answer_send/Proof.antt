@@ -41,7 +41,7 @@ refusal-number-requires : tie.Need-refusal-number-requires
 refusal-number-requires c κs = search needs
 
 put-no-requires : tie.Need-put-no-requires
-put-no-requires c κs = omega (arith, c .refusal-number .ensures, number-few (c .before .before .routed2 .given .0 .0))
+put-no-requires c κs = omega (arith, c .refusal-number .ensures, number-few (c .before .before .before .routed2 .given .0 .0))
 
 same-length-3 : tie.Need-same-length-3
 same-length-3 c = search needs
@@ -50,7 +50,7 @@ same-length-4 : tie.Need-same-length-4
 same-length-4 c = search needs
 
 returns-2 : tie.Need-returns-2
-returns-2 c = not-sent _ _ _ _ _ (c .before .before .before .before .before .before .before .before .before .before .before .before .before .before .before .pre .0) (c .before .before .before .before .before .before .before .before .before .before .before .before .before .before .before .pre .1) _ (c .before .before .before .before .before .before .before .before .before .before .before .before .before .before .before .pre .2) (c .before .before .before .before .before .before .before .before .before .before .route-marked .ensures) (c .before .before .before .before .before .routed2 .given .1) (c .before .before .before .refusal-number .ensures) (c .before .before .put-no .ensures)
+returns-2 c = not-sent _ _ _ _ _ (c .before .before .before .before .before .before .before .before .before .before .before .before .before .before .before .pre .0) (c .before .before .before .before .before .before .before .before .before .before .before .before .before .before .before .pre .1) _ (c .before .before .before .before .before .before .before .before .before .before .before .before .before .before .before .pre .2) (c .before .before .before .before .before .before .before .before .before .before .route-marked .ensures) (c .before .before .before .before .before .before .routed2 .given .1) (c .before .before .before .refusal-number .ensures) (c .before .before .put-no .ensures)
 
 pub answer-send-spec : {M : Type 1} → statement M
 answer-send-spec =

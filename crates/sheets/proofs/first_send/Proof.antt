@@ -1,46 +1,36 @@
+-- The marking, then the answer. Assumes nothing.
 use borrow.Author.Needs.{needs}
+use native.Mathlib.Omega.{arith}
+use Rattle.sheets.proofs.Sends.{first-refused, first-sendable, first-room, first-sent}
 use Rattle.sheets.proofs.first_send.Statement.{statement}
 use Rattle.sheets.proofs.first_send.Tie as tie
-use Rattle.sheets.proofs.first_send.Reads as reads
-use Rattle.sheets.proofs.first_send.Lts as lts
-use Rattle.sheets.proofs.next_send.Reads as next-send-reads
-use Rattle.sheets.proofs.open_sends.Reads as open-sends-reads
 
--- src/lib.rt:318:9
 open-sends-requires : tie.Need-open-sends-requires
 open-sends-requires c κs = search needs
 
--- src/lib.rt:320:9
 same-length : tie.Need-same-length
 same-length c = search needs
 
--- src/lib.rt:320:9
 same-length-2 : tie.Need-same-length-2
 same-length-2 c = search needs
 
--- src/lib.rt:320:9
 returns : tie.Need-returns
-returns c = ?
+returns c = first-refused _ (c .before .before .before .before .before .open-sends .ensures) _ _ (c .if1 .taken)
 
--- src/lib.rt:323:9
 next-send-requires : tie.Need-next-send-requires
-next-send-requires c κs = ?
+next-send-requires c κs = (first-sendable _ (c .before .before .before .before .before .before .before .before .before .open-sends .ensures) (c .before .before .before .before .if1 .left), c .before .before .before .before .before .before .before .before .before .before .before .before .before .before .before .before .pre .2, first-room _ (c .before .before .before .before .before .before .before .before .before .open-sends .ensures) (c .before .before .before .before .if1 .left) (c .before .before .before .before .before .before .before .before .before .before .before .before .before .before .before .before .pre .0 .on-map) (c .before .before .before .before .before .before .before .before .before .before .before .before .before .before .before .before .pre .1) (c .before .before .before .before .before .before .before .before .before .before .before .before .before .before .before .before .pre .3))
 
--- src/lib.rt:305:1
 same-length-3 : tie.Need-same-length-3
 same-length-3 c = search needs
 
--- src/lib.rt:305:1
 same-length-4 : tie.Need-same-length-4
 same-length-4 c = search needs
 
--- src/lib.rt:305:1
 same-length-5 : tie.Need-same-length-5
 same-length-5 c = search needs
 
--- src/lib.rt:305:1
 returns-2 : tie.Need-returns-2
-returns-2 c = ?
+returns-2 c = first-sent _ (c .before .before .before .before .before .before .before .before .before .before .before .before .before .before .open-sends .ensures) (c .before .before .before .before .before .before .before .before .before .if1 .left) _ _ (c .before .before .before .before .next-send .ensures)
 
 pub first-send-spec : {M : Type 1} → statement M
 first-send-spec =

@@ -3,7 +3,7 @@ use borrow.Author.Needs.{needs}
 use native.Mathlib.Omega.{arith}
 use mathlib.Core.Path.{sym, ap, _∙_}
 use lib.Seq.{length-take-le}
-use Rattle.sheets.proofs.Sends.{faults-on, ready-sized, ready-few, blocks-few, front-sized, not-opened, opened}
+use Rattle.sheets.proofs.Sends.{faults-on, ready-sized, ready-few, count-few, front-within, front-sized, not-opened, opened}
 use Rattle.sheets.proofs.open_sends.Statement.{statement}
 use Rattle.sheets.proofs.open_sends.Tie as tie
 
@@ -38,19 +38,19 @@ slice-aggregate-mark-2 : tie.Need-slice-aggregate-mark-2
 slice-aggregate-mark-2 c = sym (length-take-le _ _ (omega (arith, ready-few _ (c .before .before .before .before .before .before .before .before .pre .0 .on-map) (faults-on (c .before .before .before .before .before .before .before .before .pre .1)), c .before .before .before .before .before .before .before .before .pre .0 .room)))
 
 mark-requires : tie.Need-mark-requires
-mark-requires c κs = ?
+mark-requires c κs = (ready-sized _ (c .before .before .before .before .before .before .before .before .pre .0 .on-map) (faults-on (c .before .before .before .before .before .before .before .before .pre .1)), length-take-le _ _ (omega (arith, ready-few _ (c .before .before .before .before .before .before .before .before .pre .0 .on-map) (faults-on (c .before .before .before .before .before .before .before .before .pre .1)), c .before .before .before .before .before .before .before .before .pre .0 .room)) ∙ sym (ready-sized _ (c .before .before .before .before .before .before .before .before .pre .0 .on-map) (faults-on (c .before .before .before .before .before .before .before .before .pre .1)) .size))
 
 slice-reshare-prefix-count-blocks : tie.Need-slice-reshare-prefix-count-blocks
-slice-reshare-prefix-count-blocks c = ?
+slice-reshare-prefix-count-blocks c = front-within _ (c .before .before .before .before .before .before .before .before .before .before .before .pre .0 .on-map) (c .before .before .before .before .before .before .before .before .before .before .before .pre .1) (c .before .before .mark .ensures) _
 
 slice-aggregate-count-blocks : tie.Need-slice-aggregate-count-blocks
-slice-aggregate-count-blocks c = ?
+slice-aggregate-count-blocks c = sym (front-sized _ (c .before .before .before .before .before .before .before .before .before .before .before .before .pre .0 .on-map) (c .before .before .before .before .before .before .before .before .before .before .before .before .pre .1) (c .before .before .before .mark .ensures) _ .size)
 
 count-blocks-requires : tie.Need-count-blocks-requires
-count-blocks-requires c κs = ?
+count-blocks-requires c κs = front-sized _ (c .before .before .before .before .before .before .before .before .before .before .before .before .pre .0 .on-map) (c .before .before .before .before .before .before .before .before .before .before .before .before .pre .1) (c .before .before .before .mark .ensures) _
 
 put-blocks-requires : tie.Need-put-blocks-requires
-put-blocks-requires c κs = ?
+put-blocks-requires c κs = (count-few _ (c .before .before .before .before .before .before .before .before .before .before .before .before .before .before .pre .0 .on-map) (faults-on (c .before .before .before .before .before .before .before .before .before .before .before .before .before .before .pre .1)) _ (c .before .count-blocks .ensures), omega (arith, c .before .before .before .before .before .before .before .before .before .before .before .before .before .before .pre .2))
 
 same-length-2 : tie.Need-same-length-2
 same-length-2 c = search needs
@@ -59,7 +59,7 @@ same-length-3 : tie.Need-same-length-3
 same-length-3 c = search needs
 
 returns-2 : tie.Need-returns-2
-returns-2 c = ?
+returns-2 c = opened _ (c .before .before .before .before .before .before .before .before .before .before .before .before .before .before .before .before .before .pre .0 .on-map) (c .before .before .before .before .before .before .before .before .before .before .before .before .before .before .before .before .before .pre .1) (c .before .before .before .before .before .before .before .before .mark .ensures) (c .before .before .before .before .before .before .before .before .before .before .before .before .before .before .before .before .before .pre .0) (c .before .before .before .before .before .before .before .before .before .before .before .before .has-misplaced .ensures) (c .before .before .before .before .before .before .before .before .before .before .before .if1 .left) (c .before .before .before .before .count-blocks .ensures) (c .before .before .put-blocks .ensures)
 
 pub open-sends-spec : {M : Type 1} → statement M
 open-sends-spec =

@@ -1,75 +1,57 @@
+-- The phase decides. Assumes nothing.
 use borrow.Author.Needs.{needs}
+use native.Mathlib.Omega.{arith}
+use Rattle.sheets.proofs.Sends.{sendable, in-phase, too-early, next-sent}
 use Rattle.sheets.proofs.send_line.Statement.{statement}
 use Rattle.sheets.proofs.send_line.Tie as tie
-use Rattle.sheets.proofs.send_line.Reads as reads
-use Rattle.sheets.proofs.send_line.Lts as lts
-use Rattle.sheets.proofs.bad_line.Reads as bad-line-reads
-use Rattle.sheets.proofs.first_send.Reads as first-send-reads
-use Rattle.sheets.proofs.next_send.Reads as next-send-reads
 
--- src/lib.rt:348:56
 enum-told : tie.Need-enum-told
 enum-told c = search needs
 
--- src/lib.rt:348:25
 bad-line-requires : tie.Need-bad-line-requires
 bad-line-requires c κs = search needs
 
--- src/lib.rt:348:25
 same-length : tie.Need-same-length
 same-length c = search needs
 
--- src/lib.rt:348:25
 returns : tie.Need-returns
-returns c = ?
+returns c = in-phase _ _ _ _ (c .before .before .before .before .enum-told .given .1) (too-early _ _ _ _ (c .before .before .bad-line .ensures))
 
--- src/lib.rt:349:62
 enum-told-2 : tie.Need-enum-told-2
 enum-told-2 c = search needs
 
--- src/lib.rt:349:26
 first-send-requires : tie.Need-first-send-requires
 first-send-requires c κs = search needs
 
--- src/lib.rt:349:26
 same-length-2 : tie.Need-same-length-2
 same-length-2 c = search needs
 
--- src/lib.rt:349:26
 same-length-3 : tie.Need-same-length-3
 same-length-3 c = search needs
 
--- src/lib.rt:349:26
 same-length-4 : tie.Need-same-length-4
 same-length-4 c = search needs
 
--- src/lib.rt:349:26
 returns-2 : tie.Need-returns-2
-returns-2 c = ?
+returns-2 c = in-phase _ _ _ _ (c .before .before .before .before .before .before .before .before .before .before .enum-told2 .given .1) (c .before .before .before .before .before .before .first-send .ensures _)
 
--- src/lib.rt:351:47
 enum-told-3 : tie.Need-enum-told-3
 enum-told-3 c = search needs
 
--- src/lib.rt:351:17
 next-send-requires : tie.Need-next-send-requires
-next-send-requires c κs = ?
+next-send-requires c κs = (sendable _ (c .before .before .before .before .before .before .before .before .before .pre .0) (c .before .before .before .enum-told3 .given .1), c .before .before .before .before .before .before .before .before .before .pre .2, omega (arith, c .before .before .before .before .before .before .before .before .before .pre .3))
 
--- src/lib.rt:352:13
 same-length-5 : tie.Need-same-length-5
 same-length-5 c = search needs
 
--- src/lib.rt:352:13
 same-length-6 : tie.Need-same-length-6
 same-length-6 c = search needs
 
--- src/lib.rt:352:13
 same-length-7 : tie.Need-same-length-7
 same-length-7 c = search needs
 
--- src/lib.rt:352:13
 returns-3 : tie.Need-returns-3
-returns-3 c = ?
+returns-3 c = in-phase _ _ _ _ (c .before .before .before .before .before .before .before .before .enum-told3 .given .1) (next-sent _ _ _ _ (c .before .before .before .before .before .before .before .before .before .before .before .before .before .before .pre .0) (c .before .before .before .before .before .before .before .before .enum-told3 .given .1) (c .before .before .before .before .next-send .ensures))
 
 pub send-line-spec : {M : Type 1} → statement M
 send-line-spec =
