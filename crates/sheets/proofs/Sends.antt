@@ -1,7 +1,7 @@
 -- The cases of a send: its answer, the marking made for the first one, and the line as a whole. Assumes nothing.
 use mathlib.Core.Path.{_≡_, refl, sym, ap, _∙_}
 use mathlib.Core.Logic.{inl, inr}
-use mathlib.Core.Bool.{Bool, true, false, cond}
+use mathlib.Core.Bool.{Bool, true, false, cond, _||_}
 use mathlib.Core.List.{List, _++_}
 use Prim.Native.Nat.{ℕ, zero, suc, _+_, _*_, _≤_, _<_}
 use native.Mathlib.Omega.{arith}
@@ -16,7 +16,7 @@ use Rattle.mesh.specs.declared.Routed.{Routed}
 use Rattle.mesh.specs.declared.Routed.the-variants.{Hops, Refused}
 use Rattle.mesh.specs.Mesh.{Mesh, mesh, letters}
 use Rattle.mesh.specs.Blocks.{bad, marked, blocks, select}
-use Rattle.mesh.specs.Refusals.{number, misplaced, mapRefusals, placeRefusals}
+use Rattle.mesh.specs.Refusals.{number, offMesh, inBlock, onARing, unserved, misplaced, mapRefusals, placeRefusals}
 use Rattle.mesh.specs.Operations.{Answer, refused, returned, answer, routedAnswer, written, hopsOf}
 use Rattle.mesh.proofs.Bools.{value, true-false}
 use Rattle.mesh.proofs.Index.{few-nodes}
@@ -94,7 +94,9 @@ module _ (columns rows : ℕ) (marks : List ℕ) (s d : Place) (fits : Sized col
 
   same-refusal : refusalOn (mesh columns rows marks) s d out ≡ requestRefusals (mesh columns rows marks) s d 0
   unfolding refusalOn requestRefusals placeRefusals first
-  same-refusal = first-same _ _ _ _ _ no-tenth
+  same-refusal =
+      let w = mesh columns rows marks in
+      first-same (offMesh w s || offMesh w d) (inBlock w s || inBlock w d) (onARing w d) (unserved w s d) _ no-tenth
 
   module _ {r : Routed} {after : List ℕ} (told : RoutesOn (mesh columns rows marks) s d out r after) where
     module _ {n : ℕ} (e : r ≡ Hops n) where
