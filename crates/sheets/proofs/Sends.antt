@@ -99,10 +99,13 @@ module _ (columns rows : ℕ) (marks : List ℕ) (s d : Place) (fits : Sized col
       first-same (offMesh w s || offMesh w d) (inBlock w s || inBlock w d) (onARing w d) (unserved w s d) _ no-tenth
 
   module _ {r : Routed} {after : List ℕ} (told : RoutesOn (mesh columns rows marks) s d out r after) where
+    told-answer : routedAnswer r ≡ answer (requestRefusals (mesh columns rows marks) s d 0) (length (hopsOf (mesh columns rows marks) s d))
+    told-answer = told .answers ∙ ap (λ k. answer k (length (hopsOf (mesh columns rows marks) s d))) same-refusal
+
     module _ {n : ℕ} (e : r ≡ Hops n) where
       told-hops : (requestRefusals (mesh columns rows marks) s d 0 ≡ 0) × (n ≡ length (hopsOf (mesh columns rows marks) s d))
       unfolding routedAnswer
-      told-hops = answer-hops _ _ _ (ap routedAnswer (sym e) ∙ told .answers ∙ ap (λ k. answer k _) same-refusal)
+      told-hops = answer-hops _ _ _ (ap routedAnswer (sym e) ∙ told-answer)
 
       told-letters : after ≡ letters (hopsOf (mesh columns rows marks) s d) ++ drop (length (letters (hopsOf (mesh columns rows marks) s d))) out
       unfolding written
@@ -117,10 +120,10 @@ module _ (columns rows : ℕ) (marks : List ℕ) (s d : Place) (fits : Sized col
           rw told-letters
           (omega (arith, told-hops .1, letters-length (hopsOf w s d), length-append (letters (hopsOf w s d)) (drop (length (letters (hopsOf w s d))) out)))
 
-      pub sent-fits : (buffer : List ℕ) (at : ℕ) → at + 24714 ≤ length buffer → (length (take n after) < 100000) × (at + length (take n after) + 10 ≤ length buffer)
-      sent-fits buffer at h =
-          let size = length-take-le n after sent-within in
-          (omega (arith, size, sent-few), omega (arith, size, sent-few, h))
+      pub sent-fits : (at size : ℕ) → at + 24714 ≤ size → (length (take n after) < 100000) × (at + length (take n after) + 10 ≤ size)
+      sent-fits at size h =
+          let taken = length-take-le n after sent-within in
+          (omega (arith, taken, sent-few), omega (arith, taken, sent-few, h))
 
       sent-letters : take n after ≡ letters (hopsOf (mesh columns rows marks) s d)
       sent-letters =
@@ -134,8 +137,9 @@ module _ (columns rows : ℕ) (marks : List ℕ) (s d : Place) (fits : Sized col
     pub not-sent : {why : Refusal} {j : ℕ} {buffer : List ℕ} {at x : ℕ} {buffer′ : List ℕ} → r ≡ Refused why → j ≡ number why → Puts buffer at (line noWord j) x buffer′ → Puts buffer at (sendAnswer (mesh columns rows marks) s d) x buffer′
     unfolding sendAnswer routedAnswer
     not-sent {why} e q p =
-        let a : refused (number why) ≡ answer (requestRefusals (mesh columns rows marks) s d 0) _ = ap routedAnswer (sym e) ∙ told .answers ∙ ap (λ k. answer k _) same-refusal in
-        rw (answer-number _ _ _ _ (rw (number-some why) at a)) (rw (q, number-some why) at p)
+        let w = mesh columns rows marks in
+        let a = rw (number-some why) at (ap routedAnswer (sym e) ∙ told-answer) in
+        rw (answer-number (requestRefusals w s d 0) _ _ (letters (hopsOf w s d)) a) (rw (q, number-some why) at p)
 
 -- The map that the faults have made.
 
