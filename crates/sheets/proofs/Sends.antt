@@ -17,7 +17,7 @@ use Rattle.mesh.specs.declared.Routed.the-variants.{Hops, Refused}
 use Rattle.mesh.specs.Mesh.{Mesh, mesh, letters}
 use Rattle.mesh.specs.Blocks.{bad, marked, blocks, select}
 use Rattle.mesh.specs.Refusals.{number, offMesh, inBlock, onARing, unserved, misplaced, mapRefusals, placeRefusals}
-use Rattle.mesh.specs.Operations.{Answer, refused, returned, answer, routedAnswer, written, hopsOf}
+use Rattle.mesh.specs.Operations.{refused, returned, answer, routedAnswer, written, hopsOf}
 use Rattle.mesh.proofs.Bools.{value, true-false}
 use Rattle.mesh.proofs.Index.{few-nodes}
 use Rattle.mesh.proofs.Lists.{letters-length}
@@ -32,14 +32,14 @@ use Rattle.buffers.proofs.Over.{over-length, puts-append}
 use Rattle.prints.specs.Prints.{line, noWord, lineWord, blocksWord, okLine}
 use Rattle.prints.proofs.Lines.{line-length}
 use Rattle.route.specs.Marked.{requestRefusals, refusalOn, RoutesOn}
-use Rattle.route.proofs.Requests.{request, request-next}
+use Rattle.route.proofs.Requests.{request}
 use Rattle.route.proofs.Routed.{rest-hops, starts}
 use Rattle.sheets.specs.declared.Phase.{Phase}
 use Rattle.sheets.specs.declared.Phase.the-variants.{Start, Faults, Sends}
 use Rattle.sheets.specs.declared.Sheet.{Sheet}
 use Rattle.sheets.specs.declared.Answered.{Answered}
 use Rattle.sheets.specs.Sheet.{State, markedOf, answerOf, sendAnswer, blocksLine, isMisplaced, sendLine}
-use Rattle.sheets.specs.Keeping.{mapOf, stateOf, NoFour, MapReady, Marked, Ready, markedMesh, Sendable, Opens, Answers}
+use Rattle.sheets.specs.Keeping.{mapOf, stateOf, MapReady, Marked, Ready, markedMesh, Sendable, Opens, Answers}
 
 -- A send's answer.
 
@@ -111,7 +111,7 @@ module _ (columns rows : ℕ) (marks : List ℕ) (s d : Place) (fits : Sized col
       unfolding written
       told-letters = told .writes ∙ rw (same-refusal, told-hops .0)
 
-      pub sent-few : n ≤ 24704
+      sent-few : n ≤ 24704
       sent-few = let t = told-hops in omega (arith, t .1, hops-few (t .0))
 
       pub sent-within : n ≤ length after
@@ -158,7 +158,7 @@ module _ (s : Sheet) {map : List ℕ} (m : MapReady s map) (on : s .phase ≡ St
 pub faults-on : {p : Phase} → p ≡ Faults → p ≡ Start → ⊥
 faults-on e f = let z : _≡_ {A = ℕ} 0 1 = cc in omega (arith, z)
 
-pub sends-on : {p : Phase} → p ≡ Sends → p ≡ Start → ⊥
+sends-on : {p : Phase} → p ≡ Sends → p ≡ Start → ⊥
 sends-on e f = let z : _≡_ {A = ℕ} 0 1 = cc in omega (arith, z)
 
 -- The marking.
@@ -172,7 +172,7 @@ select-few t f (suc n) i =
       | inr e ↦ rw e (omega (arith, select-few t f n (suc i)))
     ]
 
-pub blocks-few : (w : Mesh) → length (blocks w) ≤ w .columns * w .rows
+blocks-few : (w : Mesh) → length (blocks w) ≤ w .columns * w .rows
 unfolding blocks
 blocks-few w = select-few _ _ (w .columns * w .rows) 0
 
@@ -181,11 +181,11 @@ count-few s m on marks e =
     omega (arith, e, blocks-few (mesh (s .columns) (s .rows) marks), ready-few s m on)
 
 module _ (s : Sheet) {map marks : List ℕ} (m : Marked s map marks) where
-  pub same-mesh : markedMesh s marks ≡ markedOf (stateOf s map)
+  same-mesh : markedMesh s marks ≡ markedOf (stateOf s map)
   same-mesh = ap (mesh (s .columns) (s .rows)) (m .marking)
 
 pub sendable : (s : Sheet) {map marks : List ℕ} → Ready s map marks → s .phase ≡ Sends → Sendable s marks
-sendable s {map} {marks} r e =
+sendable s {map} r e =
     let m = r .sends e in
     let z = ready-sized s (r .on-map) (sends-on e) in
     record {
@@ -203,7 +203,7 @@ sendable s {map} {marks} r e =
 module _ (s : Sheet) {map : List ℕ} {b : Bool} (is-b : b ≡ misplaced (s .columns) (s .rows) (mapOf s map)) where
   pub not-opened : {marks out : List ℕ} {at : ℕ} {x : Answered} {after : List ℕ} → b ≡ true → (x .sheet ≡ s) × (x .ends ≡ true) × Puts out at (line noWord 5) (x .at) after → Opens s map out at x marks after
   unfolding isMisplaced
-  not-opened {out = out} {at} {x} {after} t r =
+  not-opened t r =
       let q : misplaced (s .columns) (s .rows) (mapOf s map) ≡ true = sym is-b ∙ t in
       record {
         puts = rw q (r .2);
@@ -219,7 +219,7 @@ module _ (s : Sheet) {map : List ℕ} (m : MapReady s map) (f : s .phase ≡ Fau
   new-length =
       ap length is-new ∙ marked-length (mesh (s .columns) (s .rows) (mapOf s map)) ∙ ready-sized s m (faults-on f) .size
 
-  pub front : (rest : List ℕ) → take (s .columns * s .rows) (new ++ rest) ≡ new
+  front : (rest : List ℕ) → take (s .columns * s .rows) (new ++ rest) ≡ new
   front rest = take-at new rest _ new-length
 
   pub front-within : (rest : List ℕ) → s .columns * s .rows ≤ length (new ++ rest)

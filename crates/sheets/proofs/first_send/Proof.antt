@@ -1,6 +1,5 @@
 -- The marking, then the answer. Assumes nothing.
 use borrow.Author.Needs.{needs}
-use native.Mathlib.Omega.{arith}
 use Rattle.sheets.proofs.Sends.{first-refused, first-sendable, first-room, first-sent}
 use Rattle.sheets.proofs.first_send.Statement.{statement}
 use Rattle.sheets.proofs.first_send.Tie as tie

@@ -1,7 +1,6 @@
 -- The marking in the first places of its buffer. Assumes nothing.
 use borrow.Author.Needs.{needs}
 use native.Mathlib.Omega.{arith}
-use mathlib.Core.Path.{sym}
 use Rattle.mesh.proofs.Index.{few-nodes}
 use Rattle.sheets.proofs.next_send.Statement.{statement}
 use Rattle.sheets.proofs.next_send.Tie as tie

@@ -1,7 +1,7 @@
 -- The faults' places, then the marking and its number of blocks. Assumes nothing.
 use borrow.Author.Needs.{needs}
 use native.Mathlib.Omega.{arith}
-use mathlib.Core.Path.{sym, ap, _∙_}
+use mathlib.Core.Path.{sym, _∙_}
 use lib.Seq.{length-take-le}
 use Rattle.sheets.proofs.Sends.{faults-on, ready-sized, ready-few, count-few, front-within, front-sized, not-opened, opened}
 use Rattle.sheets.proofs.open_sends.Statement.{statement}
