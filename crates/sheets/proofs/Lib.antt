@@ -1,6 +1,7 @@
 pub mod Lines
-pub mod Faults
 pub mod Theorems
+pub mod Faults
+pub mod Sends
 pub mod Ends
 pub mod Answering
 pub mod Feeding
