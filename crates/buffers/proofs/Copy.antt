@@ -1,7 +1,7 @@
 -- Bytes copied into a buffer one by one. Assumes nothing.
 use mathlib.Core.Path.{_≡_, refl, sym, _∙_}
 use mathlib.Core.List.{List, [], _∷_}
-use Prim.Native.Nat.{ℕ, _+_, _<_}
+use Prim.Native.Nat.{ℕ, _+_, _<_, _≤_}
 use native.Mathlib.Nat.{add-zero}
 use native.Mathlib.Numerals.{add-one}
 use native.Mathlib.Omega.{arith}
@@ -9,9 +9,9 @@ use lib.ListN.{length, drop, set, getD, length-set, drop-of-length-le}
 use lib.Seq.{drop-cons}
 use Rattle.buffers.specs.Over.{over, Puts}
 
-pub puts-byte : (out : List ℕ) (at byte : ℕ) → Puts out at (byte ∷ []) (at + 1) (set out at byte)
+pub puts-byte : (out : List ℕ) (at byte : ℕ) → at < length out → Puts out at (byte ∷ []) (at + 1) (set out at byte)
 unfolding over
-puts-byte out at byte = record { next = refl; stands = refl }
+puts-byte out at byte h = record { next = refl; stands = refl; fits = omega arith }
 
 -- the bytes before index i are copied: with the others the buffer is as it will be
 pub record Putting (out : List ℕ) (at : ℕ) (from : List ℕ) (i : ℕ) (now : List ℕ) : Type 0 where
@@ -32,7 +32,11 @@ module _ {out : List ℕ} {at : ℕ} {from : List ℕ} where
           leads = rw (← next, add-one i, e) (rw (drop-cons from i 0 h) at (p .leads));
         }
 
-    pub putting-all : i ≡ length from → Puts out at from (at + length from) now
+    pub putting-all : i ≡ length from → at + length from ≤ length out → Puts out at from (at + length from) now
     unfolding over
-    putting-all e =
-        record { next = refl; stands = sym (sym (p .leads) ∙ rw (drop-of-length-le from {i = i} (omega arith))) }
+    putting-all e h =
+        record {
+          next = refl;
+          stands = sym (sym (p .leads) ∙ rw (drop-of-length-le from {i = i} (omega arith)));
+          fits = h;
+        }

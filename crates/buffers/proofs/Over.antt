@@ -39,10 +39,15 @@ take-over xs i ys h =
     ap (take (i + length ys)) (over-from xs i ys h ∙ sym (append-assoc (take i xs) ys (drop (i + length ys) xs))) ∙
     take-at (take i xs ++ ys) (drop (i + length ys) xs) (i + length ys) n
 
+pub puts-nothing : (out : List ℕ) (at : ℕ) → at ≤ length out → Puts out at [] at out
+unfolding over
+puts-nothing out at h = record { next = omega arith; stands = refl; fits = h }
+
 -- one thing after another
 pub puts-append : {out : List ℕ} {at : ℕ} {ys : List ℕ} {x : ℕ} {mid zs : List ℕ} {x′ : ℕ} {after : List ℕ} → Puts out at ys x mid → Puts mid x zs x′ after → Puts out at (ys ++ zs) x′ after
 puts-append {out} {at} {ys} {x} {mid} {zs} {x′} {after} p q =
     record {
       next = q .next ∙ omega (arith, p .next, length-append ys zs);
       stands = q .stands ∙ rw (p .stands, p .next) (sym (over-append out at ys zs));
+      fits = let size = rw (p .stands) at (q .fits) in omega (arith, over-length out at ys);
     }

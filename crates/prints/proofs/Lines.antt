@@ -1,11 +1,11 @@
 -- What is written piece by piece is the whole line; and how long it is at most. Assumes nothing.
-use mathlib.Core.Path.{_≡_, refl}
+use mathlib.Core.Path.{_≡_}
 use mathlib.Core.List.{List, [], _∷_}
 use Prim.Native.Nat.{ℕ, _+_, _/_, _%_, _≤_, _<_}
 use native.Mathlib.Omega.{arith}
 use lib.ListN.{length, length-append}
-use Rattle.buffers.specs.Over.{over, Puts}
-use Rattle.buffers.proofs.Over.{puts-append}
+use Rattle.buffers.specs.Over.{Puts}
+use Rattle.buffers.proofs.Over.{puts-nothing, puts-append}
 use Rattle.prints.specs.Prints.{decimal, line, spacedLetters, okWord, okLine}
 use Rattle.prints.proofs.Decimal.{decimal-one, decimal-more, decimal-few, decimal-length}
 
@@ -48,7 +48,7 @@ module _ {out : List ℕ} {at x : ℕ} {mid : List ℕ} where
   unfolding okLine
   puts-ok letters p q r s = puts-append p (puts-append q (puts-append r s))
 
-pub puts-no-letters : (out : List ℕ) (at : ℕ) (letters : List ℕ) → length letters ≡ 0 → Puts out at (spacedLetters letters) at out
-unfolding spacedLetters over
-puts-no-letters out at [] e = record { next = omega arith; stands = refl }
-puts-no-letters out at (l ∷ ls) e = absurd (omega arith)
+pub puts-no-letters : (out : List ℕ) (at : ℕ) (letters : List ℕ) → at ≤ length out → length letters ≡ 0 → Puts out at (spacedLetters letters) at out
+unfolding spacedLetters
+puts-no-letters out at [] h e = puts-nothing out at h
+puts-no-letters out at (l ∷ ls) h e = absurd (omega arith)

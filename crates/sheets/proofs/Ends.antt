@@ -1,24 +1,20 @@
 -- The end of a sheet, case by case. Assumes nothing.
 use mathlib.Core.Path.{_≡_, refl, sym, ap, _∙_}
-use mathlib.Core.Bool.{Bool, true, false, cond}
-use mathlib.Core.List.{List, [], _∷_, _++_}
-use Prim.Native.Nat.{ℕ, zero, suc, _+_, _≤_, _<_}
-use native.Mathlib.Nat.{add-zero}
+use mathlib.Core.Bool.{true, false, cond}
+use mathlib.Core.List.{List, [], _∷_}
+use Prim.Native.Nat.{ℕ, zero, suc, _≤_, _<_}
 use native.Mathlib.Omega.{arith}
 use lib.ListN.{length, take}
 use Rattle.sheets.specs.declared.Phase.{Phase}
 use Rattle.sheets.specs.declared.Phase.the-variants.{Start, Faults, Sends}
 use Rattle.sheets.specs.declared.Answered.{Answered}
 use Rattle.sheets.specs.declared.Reader.{Reader as Held}
-use Rattle.buffers.specs.Over.{over, Puts}
+use Rattle.buffers.specs.Over.{Puts}
+use Rattle.buffers.proofs.Over.{puts-nothing}
 use Rattle.prints.specs.Prints.{line, lineWord}
 use Rattle.sheets.specs.Sheet.{blocksLine, isMisplaced, atEnd}
-use Rattle.sheets.specs.Reader.{Reader, begun, lastLine, finish}
+use Rattle.sheets.specs.Reader.{Reader, lastLine, finish}
 use Rattle.sheets.specs.Keeping.{stateOf, readerOf, Opens}
-
-pub puts-none : (out : List ℕ) (at : ℕ) → Puts out at [] at out
-unfolding over
-puts-none out at = record { next = omega arith; stands = refl }
 
 last-held : (r : Reader) (k : ℕ) (hold : List ℕ) → 0 < k → 0 < length hold → lastLine r (take k hold) ≡ line lineWord (r .number)
 unfolding lastLine
@@ -49,8 +45,8 @@ module _ (r : Held) (map hold : List ℕ) where
       last-none (readerOf r hold map) (r .held) hold (omega arith)
 
   module _ (out : List ℕ) (at : ℕ) where
-    pub finish-over : r .over ≡ true → Puts out at (finish (readerOf r hold map)) at out
-    finish-over e = rw (over-end e) (puts-none out at)
+    pub finish-over : at ≤ length out → r .over ≡ true → Puts out at (finish (readerOf r hold map)) at out
+    finish-over h e = rw (over-end e) (puts-nothing out at h)
 
     pub finish-held : {x : ℕ} {after : List ℕ} → r .over ≡ false → 0 < r .held → Puts out at (line lineWord (r .number)) x after → 20 ≤ length hold → Puts out at (finish (readerOf r hold map)) x after
     finish-held on h p room = rw (held-end on h room) p
@@ -64,9 +60,9 @@ module _ (r : Held) (map hold : List ℕ) where
       unfolding atEnd isMisplaced blocksLine
       finish-faults e o = rw (none-end on none, e) (o .puts)
 
-      pub finish-sends : r .sheet .phase ≡ Sends → Puts out at (finish (readerOf r hold map)) at out
+      pub finish-sends : at ≤ length out → r .sheet .phase ≡ Sends → Puts out at (finish (readerOf r hold map)) at out
       unfolding atEnd
-      finish-sends e = rw (none-end on none, e) (puts-none out at)
+      finish-sends h e = rw (none-end on none, e) (puts-nothing out at h)
 
 -- the phases differ
 place : Phase → ℕ

@@ -16,7 +16,8 @@ use Rattle.mesh.specs.Refusals.{badSize, badLength, some, badByte, offMesh}
 use Rattle.mesh.proofs.Bools.{true-false, or-none}
 use Rattle.mesh.proofs.Index.{index-within, few-nodes}
 use Rattle.mesh.proofs.Refusals.{good-size}
-use Rattle.buffers.specs.Over.{over, Puts}
+use Rattle.buffers.specs.Over.{Puts}
+use Rattle.buffers.proofs.Over.{puts-nothing}
 use Rattle.prints.specs.Prints.{line, noWord, lineWord}
 use Rattle.sheets.specs.declared.Phase.{Phase}
 use Rattle.sheets.specs.declared.Phase.the-variants.{Start, Faults, Sends}
@@ -38,10 +39,6 @@ pub cleared-more : {i : ℕ} {map : List ℕ} → Cleared i map → i < length m
 cleared-more {i} {map} p h = record { zeros = rw (add-one, take-suc-set map i 0 h, p .zeros) (one-more i 0) }
 
 -- nothing printed
-pub puts-nothing : (out : List ℕ) (at : ℕ) → Puts out at [] at out
-unfolding over
-puts-nothing out at = record { next = omega arith; stands = refl }
-
 pub faults-begun : {p : Phase} → p ≡ Faults → p ≡ Start → ⊥
 faults-begun e f = let z : _≡_ {A = ℕ} 0 1 = cc in omega arith
 
@@ -136,12 +133,12 @@ pub first-nodes : (columns rows : ℕ) {b d : Bool} → b ≡ badSize columns �
 first-nodes columns rows e f g h =
     few-nodes columns rows (good-size columns (sym e ∙ f) .1) (good-size rows (sym g ∙ h) .1)
 
-pub first-cleared : (t : State) {columns rows : ℕ} {b d : Bool} {map out : List ℕ} {at : ℕ} → b ≡ badSize columns → b ≡ false → d ≡ badSize rows → d ≡ false → 4096 ≤ length map → Cleared (columns * rows) map → (number : ℕ) → StepsMap (meshLine Start number t columns rows) out at (record { sheet = record { phase = Faults; columns = columns; rows = rows }; at = at; ends = false }) map out
+pub first-cleared : (t : State) {columns rows : ℕ} {b d : Bool} {map out : List ℕ} {at : ℕ} → b ≡ badSize columns → b ≡ false → d ≡ badSize rows → d ≡ false → 4096 ≤ length map → Cleared (columns * rows) map → at ≤ length out → (number : ℕ) → StepsMap (meshLine Start number t columns rows) out at (record { sheet = record { phase = Faults; columns = columns; rows = rows }; at = at; ends = false }) map out
 unfolding meshLine
-first-cleared t {columns} {rows} {b} {d} {map} {out} {at} e f g h l p number =
+first-cleared t {columns} {rows} {b} {d} {map} {out} {at} e f g h l p fits number =
     rw (← e, f, ← g, h)
     (record {
-      puts = puts-nothing out at;
+      puts = puts-nothing out at fits;
       ends = refl;
       next = rw (p .zeros);
       ready = record { room = l; four = λ n. rw (p .zeros) (four-zeros columns rows (sym e ∙ f) (sym g ∙ h)) };
@@ -152,14 +149,14 @@ module _ {s : Sheet} {map : List ℕ} (r : MapReady s map) (e : s .phase ≡ Fau
   pub fault-index : (q .row .0 * s .columns + q .column .0 < s .columns * s .rows) × (s .columns * s .rows ≤ 4096)
   fault-index = (index-within (s .columns) (q .row .0) (q .column .0) k (s .rows) j, four-nodes (r .four (faults-begun e)))
 
-  pub fault-set : (out : List ℕ) (at number : ℕ) → StepsMap (faultLine Faults number (stateOf s map) q) out at (record { sheet = s; at = at; ends = false }) (set map (q .row .0 * s .columns + q .column .0) 1) out
+  pub fault-set : (out : List ℕ) (at number : ℕ) → at ≤ length out → StepsMap (faultLine Faults number (stateOf s map) q) out at (record { sheet = s; at = at; ends = false }) (set map (q .row .0 * s .columns + q .column .0) 1) out
   unfolding faultLine offMesh onMesh
-  fault-set out at number =
+  fault-set out at number fits =
       let i = q .row .0 * s .columns + q .column .0 in
       let set-in = take-set-lt (s .columns * s .rows) map i 1 (fault-index .0) in
       rw (lt-ltb (q .row .0) (s .rows) j, lt-ltb (q .column .0) (s .columns) k)
       (record {
-        puts = puts-nothing out at;
+        puts = puts-nothing out at fits;
         ends = refl;
         next = rw (e, set-in);
         ready = record { room = rw (length-set map i 1) (r .room); four = λ n. rw set-in (four-set i (r .four n)) };

@@ -41,7 +41,7 @@ same-length : tie.Need-same-length Inv-loop μ-loop
 same-length c = omega arith
 
 returns : tie.Need-returns Inv-loop μ-loop
-returns c = putting-all (c .before .loop .inv .2) (omega arith)
+returns c = putting-all (c .before .loop .inv .2) (omega arith) (omega arith)
 
 pub put-spec : {M : Type 1} → statement M
 put-spec =

@@ -5,7 +5,7 @@ use Rattle.prints.proofs.put_letters.Statement.{statement}
 use Rattle.prints.proofs.put_letters.Tie as tie
 
 returns : tie.Need-returns
-returns c = puts-no-letters _ _ _ (c .if1 .taken)
+returns c = puts-no-letters _ _ _ (omega arith) (c .if1 .taken)
 
 put-byte-requires : tie.Need-put-byte-requires
 put-byte-requires c κs = omega arith

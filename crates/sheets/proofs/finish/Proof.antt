@@ -6,7 +6,7 @@ use Rattle.sheets.proofs.finish.Statement.{statement}
 use Rattle.sheets.proofs.finish.Tie as tie
 
 returns : tie.Need-returns
-returns c = λ hold p. finish-over (c .before .before .before .before .args .reader) _ hold _ _ (c .if1 .taken)
+returns c = λ hold p. finish-over (c .before .before .before .before .args .reader) _ hold _ _ (omega arith) (c .if1 .taken)
 
 put-bad-line-requires : tie.Need-put-bad-line-requires
 put-bad-line-requires c κs = (omega (arith, c .before .before .before .before .before .before .before .before .pre .0 .few (c .before .before .before .before .if1 .left)), omega arith)
@@ -48,7 +48,7 @@ enum-told-3 : tie.Need-enum-told-3
 enum-told-3 c = search needs
 
 returns-5 : tie.Need-returns-5
-returns-5 c = λ hold p. finish-sends _ _ hold _ _ (c .before .before .before .before .before .if1 .left) (c .before .before .if2 .left) (c .enum-told3 .given .1)
+returns-5 c = λ hold p. finish-sends _ _ hold _ _ (c .before .before .before .before .before .if1 .left) (c .before .before .if2 .left) (omega arith) (c .enum-told3 .given .1)
 
 pub finish-spec : {M : Type 1} → statement M
 finish-spec =

@@ -42,7 +42,7 @@ same-length-3 : tie.Need-same-length-3
 same-length-3 c = search needs
 
 returns-3 : tie.Need-returns-3
-returns-3 c = first-cleared _ (c .before .before .before .before .before .before .before .is-bad-size .ensures) (c .before .before .before .before .before .before .if1 .left) (c .before .before .before .before .before .is-bad-size2 .ensures) (c .before .before .before .before .if2 .left) (omega (arith, c .before .before .before .before .before .before .before .before .before .before .pre .0 .room, c .before .before .clear .kept .0)) (c .before .before .clear .ensures)
+returns-3 c = first-cleared _ (c .before .before .before .before .before .before .before .is-bad-size .ensures) (c .before .before .before .before .before .before .if1 .left) (c .before .before .before .before .before .is-bad-size2 .ensures) (c .before .before .before .before .if2 .left) (omega (arith, c .before .before .before .before .before .before .before .before .before .before .pre .0 .room, c .before .before .clear .kept .0)) (c .before .before .clear .ensures) (omega arith)
 
 pub first-line-spec : {M : Type 1} → statement M
 first-line-spec =

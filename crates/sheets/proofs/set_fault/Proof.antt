@@ -39,7 +39,7 @@ same-length-3 : tie.Need-same-length-3
 same-length-3 c = search needs
 
 returns-3 : tie.Need-returns-3
-returns-3 c = fault-set (c .before .before .before .before .before .before .pre .0) (c .before .before .before .before .before .before .pre .1) (omega arith) (omega arith) _ _ _
+returns-3 c = fault-set (c .before .before .before .before .before .before .pre .0) (c .before .before .before .before .before .before .pre .1) (omega arith) (omega arith) _ _ _ (omega arith)
 
 pub set-fault-spec : {M : Type 1} → statement M
 set-fault-spec =
