@@ -105,3 +105,26 @@ module _ {columns rows : ℕ} {marks : List ℕ} {p : Packet} {out : List ℕ} {
           let f′ = rw (is-q, is-out) at f in
           let walks = way-first (g .on-way) away .walks in
           record { counts = rw walks (omega (arith, f′ .counts)); writes = rw walks (f′ .writes) }
+
+-- from p₀ with begun hops made the packet has come to p with made of them
+pub record Along (columns rows : ℕ) (marks : List ℕ) (p₀ : Packet) (out₀ : List ℕ) (begun limit : ℕ) (p : Packet) (out : List ℕ) (made left : ℕ) : Type 0 where
+  pub going : Going columns rows marks p out made left
+  pub onward : {x : ℕ} {after : List ℕ} → Follows (mesh columns rows marks) p out made left x after → Follows (mesh columns rows marks) p₀ out₀ begun limit x after
+  pub fell : left ≤ limit
+  pub size : length out ≡ length out₀
+
+pub along-none : {columns rows : ℕ} {marks : List ℕ} {p : Packet} {out : List ℕ} {made left : ℕ} → Going columns rows marks p out made left → Along columns rows marks p out made left p out made left
+along-none g = record { going = g; onward = λ f. f; fell = omega arith; size = refl }
+
+module _ {columns rows : ℕ} {marks : List ℕ} {p₀ : Packet} {out₀ : List ℕ} {begun limit : ℕ} {p : Packet} {out : List ℕ} {made left : ℕ} (a : Along columns rows marks p₀ out₀ begun limit p out made left) where
+  pub along-less : left - 1 < limit
+  along-less = omega (arith, a .fell, going-left (a .going))
+
+  pub along-hop : {q : Packet} {out′ : List ℕ} → isThere p ≡ false → q ≡ movedPacket (hopFrom (mesh columns rows marks) p) p → out′ ≡ set out made (letter (hopFrom (mesh columns rows marks) p)) → Along columns rows marks p₀ out₀ begun limit q out′ (made + 1) (left - 1)
+  along-hop away is-q is-out =
+      record {
+        going = going-on (a .going) away is-q is-out;
+        onward = λ f. a .onward (follows-on (a .going) away is-q is-out f);
+        fell = omega (arith, a .fell);
+        size = rw is-out (length-set out made (letter (hopFrom (mesh columns rows marks) p)) ∙ a .size);
+      }

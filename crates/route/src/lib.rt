@@ -62,24 +62,29 @@ fn straight(
     columns: u32,
     rows: u32,
     marks: &[u8],
-    p: Packet,
+    packet: Packet,
     out: &mut [u8],
-    made: u32,
-    left: u32,
+    begun: u32,
+    limit: u32,
 ) -> u32
-    requires { ⌜ Going columns rows (now marks) p (now out) made left ⌝ }
-    ensures { λ x. ⌜ Follows (mesh columns rows (now (marks .entry))) p (now (out .entry)) made left x (now (out .exit)) ⌝ }
+    requires { ⌜ Going columns rows (now marks) packet (now out) begun limit ⌝ }
+    ensures { λ x. ⌜ Follows (mesh columns rows (now (marks .entry))) packet (now (out .entry)) begun limit x (now (out .exit)) ⌝ }
 {
-    if is_there(p) {
-        return made;
-    }
-    let q = advance(columns, rows, marks, p, out, made, left);
-    if is_in_row(p) {
-        if !is_in_row(q) {
-            return round_block(columns, rows, marks, q, out, made + 1, left - 1);
+    let mut p = packet;
+    let mut made = begun;
+    let mut left = limit;
+    while !is_there(p) {
+        let in_row = is_in_row(p);
+        p = advance(columns, rows, marks, p, out, made, left);
+        made += 1;
+        left -= 1;
+        if in_row {
+            if !is_in_row(p) {
+                return round_block(columns, rows, marks, p, out, made, left);
+            }
         }
     }
-    straight(columns, rows, marks, q, out, made + 1, left - 1)
+    made
 }
 
 // Travel round a block: away from the row, past the block and back.
@@ -87,19 +92,23 @@ fn round_block(
     columns: u32,
     rows: u32,
     marks: &[u8],
-    p: Packet,
+    packet: Packet,
     out: &mut [u8],
-    made: u32,
-    left: u32,
+    begun: u32,
+    limit: u32,
 ) -> u32
-    requires { ⌜ Going columns rows (now marks) p (now out) made left × (eqb (p .place .row .0) (p .destination .row .0) ≡ false) ⌝ }
-    ensures { λ x. ⌜ Follows (mesh columns rows (now (marks .entry))) p (now (out .entry)) made left x (now (out .exit)) ⌝ }
+    requires { ⌜ Going columns rows (now marks) packet (now out) begun limit × (eqb (packet .place .row .0) (packet .destination .row .0) ≡ false) ⌝ }
+    ensures { λ x. ⌜ Follows (mesh columns rows (now (marks .entry))) packet (now (out .entry)) begun limit x (now (out .exit)) ⌝ }
 {
-    let q = advance(columns, rows, marks, p, out, made, left);
-    if is_in_row(q) {
-        return straight(columns, rows, marks, q, out, made + 1, left - 1);
+    let mut p = packet;
+    let mut made = begun;
+    let mut left = limit;
+    while !is_in_row(p) {
+        p = advance(columns, rows, marks, p, out, made, left);
+        made += 1;
+        left -= 1;
     }
-    round_block(columns, rows, marks, q, out, made + 1, left - 1)
+    straight(columns, rows, marks, p, out, made, left)
 }
 
 // Whether the hops from here to the destination fit into so many bytes. No route has more than 24704.
