@@ -50,10 +50,12 @@ pub fn test_hop(columns: u32, rows: u32, marks: &[u8], p: Packet, h: Heading) ->
     if turns_back(l, h) {
         return Tested::Wrong(Fault::Reverses);
     }
-    if turns_wrong(l, h, c) {
+    let wrong_turn = turns_wrong(l, h, c);
+    let blocked = is_bad_ahead(columns, rows, marks, r, c, h, 1);
+    if wrong_turn {
         return Tested::Wrong(Fault::ForbiddenTurn);
     }
-    if is_bad_ahead(columns, rows, marks, r, c, h, 1) {
+    if blocked {
         return Tested::Wrong(Fault::EntersBlock);
     }
     Tested::Lawful

@@ -24,20 +24,20 @@ returns-2 c = rw (sym (c .before .before .before .stays .ensures) ∙ not-false 
 turns-wrong-requires : tie.Need-turns-wrong-requires
 turns-wrong-requires c κs = search needs
 
-returns-3 : tie.Need-returns-3
-unfolding faultNumber testedNumber letterFault
-returns-3 c = rw (sym (c .before .before .before .before .before .stays .ensures) ∙ not-false _ (c .before .before .before .before .if1 .left), sym (c .before .before .before .turns-back .ensures) ∙ c .before .before .if2 .left, sym (c .before .turns-wrong .ensures) ∙ c .if3 .taken)
-
 is-bad-ahead-requires : tie.Need-is-bad-ahead-requires
 is-bad-ahead-requires c κs = search needs
 
+returns-3 : tie.Need-returns-3
+unfolding faultNumber testedNumber letterFault
+returns-3 c = rw (sym (c .before .before .before .before .before .before .stays .ensures) ∙ not-false _ (c .before .before .before .before .before .if1 .left), sym (c .before .before .before .before .turns-back .ensures) ∙ c .before .before .before .if2 .left, sym (c .before .before .turns-wrong .ensures) ∙ c .if3 .taken)
+
 returns-4 : tie.Need-returns-4
 unfolding faultNumber testedNumber letterFault blocked
-returns-4 c = rw (sym (c .before .before .before .before .before .before .before .stays .ensures) ∙ not-false _ (c .before .before .before .before .before .before .if1 .left), sym (c .before .before .before .before .before .turns-back .ensures) ∙ c .before .before .before .before .if2 .left, sym (c .before .before .before .turns-wrong .ensures) ∙ c .before .before .if3 .left, sym (c .before .is-bad-ahead .ensures) ∙ c .if4 .taken)
+returns-4 c = rw (sym (c .before .before .before .before .before .before .before .stays .ensures) ∙ not-false _ (c .before .before .before .before .before .before .if1 .left), sym (c .before .before .before .before .before .turns-back .ensures) ∙ c .before .before .before .before .if2 .left, sym (c .before .before .before .turns-wrong .ensures) ∙ c .before .if3 .left, sym (c .before .before .is-bad-ahead .ensures) ∙ c .if4 .taken)
 
 returns-5 : tie.Need-returns-5
 unfolding faultNumber testedNumber letterFault blocked
-returns-5 c = rw (sym (c .before .before .before .before .before .before .before .stays .ensures) ∙ not-false _ (c .before .before .before .before .before .before .if1 .left), sym (c .before .before .before .before .before .turns-back .ensures) ∙ c .before .before .before .before .if2 .left, sym (c .before .before .before .turns-wrong .ensures) ∙ c .before .before .if3 .left, sym (c .before .is-bad-ahead .ensures) ∙ c .if4 .left)
+returns-5 c = rw (sym (c .before .before .before .before .before .before .before .stays .ensures) ∙ not-false _ (c .before .before .before .before .before .before .if1 .left), sym (c .before .before .before .before .before .turns-back .ensures) ∙ c .before .before .before .before .if2 .left, sym (c .before .before .before .turns-wrong .ensures) ∙ c .before .if3 .left, sym (c .before .before .is-bad-ahead .ensures) ∙ c .if4 .left)
 
 pub test-hop-spec : {M : Type 1} → statement M
 test-hop-spec =
@@ -48,7 +48,7 @@ test-hop-spec =
     turns-back-requires
     returns-2
     turns-wrong-requires
-    returns-3
     is-bad-ahead-requires
+    returns-3
     returns-4
     returns-5)
