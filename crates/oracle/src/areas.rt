@@ -1,5 +1,6 @@
 // Blocks as boxes: each fault is a box, and two boxes less than 3 apart in column and less than 2 apart in row become the one around both.
 use crate::lists::get;
+use crate::lists::plus;
 use crate::lists::put;
 
 // A box by its lowest row, lowest column, highest row and highest column.
@@ -95,6 +96,9 @@ fn find_close(list: &[u8], n: usize, a: Area) -> usize {
 
 // Adds a box to n boxes of which no two are close, joining it with those that it is close to, one after another. Answers how many there are then.
 fn join(list: &mut [u8], n: usize, a: Area) -> usize {
+    if 1024 <= n {
+        return n;
+    }
     let mut joined = a;
     let mut left = n;
     while 0 < left {
@@ -111,22 +115,31 @@ fn join(list: &mut [u8], n: usize, a: Area) -> usize {
     1
 }
 
+// Adds node i of the board to n boxes, if it is faulty. Answers how many there are then.
+fn join_node(board: &[u8], list: &mut [u8], n: usize, i: usize) -> usize {
+    if 4096 <= i {
+        return n;
+    }
+    if get(board, i) != 1 {
+        return n;
+    }
+    let r = (i / 64) as u8;
+    let c = (i % 64) as u8;
+    let fault = Area {
+        south: r,
+        west: c,
+        north: r,
+        east: c,
+    };
+    join(list, n, fault)
+}
+
 // The boxes of the board's faults. Answers how many there are.
 pub fn find_areas(board: &[u8], list: &mut [u8]) -> usize {
     let mut n = 0;
     let mut i = 0;
     while i < 4096 {
-        if get(board, i) == 1 {
-            let r = (i / 64) as u8;
-            let c = (i % 64) as u8;
-            let fault = Area {
-                south: r,
-                west: c,
-                north: r,
-                east: c,
-            };
-            n = join(list, n, fault);
-        }
+        n = join_node(board, list, n, i);
         i += 1;
     }
     n
@@ -170,17 +183,23 @@ pub fn is_in_some(list: &[u8], n: usize, rows: u32, columns: u32, r: u32, c: u32
     false
 }
 
-// Marks on the board the sound nodes in the boxes with 2.
+// Marks node i of the board with 2, if it is sound and in a box.
+fn paint_node(board: &mut [u8], list: &[u8], n: usize, i: usize) {
+    if 4096 <= i {
+        return;
+    }
+    if get(board, i) == 0 {
+        if is_in_some(list, n, 0, 0, (i / 64) as u32, (i % 64) as u32) {
+            put(board, i, 2);
+        }
+    }
+}
+
+// Marks the sound nodes in the boxes with 2.
 pub fn paint(board: &mut [u8], list: &[u8], n: usize) {
     let mut i = 0;
     while i < 4096 {
-        let r = (i / 64) as u32;
-        let c = (i % 64) as u32;
-        if get(board, i) == 0 {
-            if is_in_some(list, n, 0, 0, r, c) {
-                put(board, i, 2);
-            }
-        }
+        paint_node(board, list, n, i);
         i += 1;
     }
 }
@@ -195,10 +214,8 @@ pub fn sum_detours(list: &[u8], n: usize) -> u32 {
     let mut sum: u32 = 0;
     let mut i = 0;
     while i < n {
-        let more = reach(area_at(list, i));
-        if sum < 1000000 {
-            sum += 2 * (more + 3);
-        }
+        let more = plus(reach(area_at(list, i)), 3);
+        sum = plus(sum, plus(more, more));
         i += 1;
     }
     sum

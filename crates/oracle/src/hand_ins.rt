@@ -31,10 +31,7 @@ pub fn find_verdict(columns: u32, rows: u32, board: &[u8], trip: Trip, letters: 
         i += 1;
     }
     if is_over(t) {
-        return Verdict {
-            wrong: 0,
-            index: n,
-        };
+        return Verdict { wrong: 0, index: n };
     }
     Verdict {
         wrong: 16,

@@ -1,4 +1,14 @@
-// Lists that are looked up and written within their length only.
+// Lists that are looked up and written within their length only, and sums that stay small.
+
+// The sum of two numbers; the first if they aren't below a million.
+pub fn plus(x: u32, y: u32) -> u32 {
+    if x < 1000000 {
+        if y < 1000000 {
+            return x + y;
+        }
+    }
+    x
+}
 
 // A byte, or 0 beyond the end.
 pub fn get(xs: &[u8], i: usize) -> u8 {
@@ -25,21 +35,37 @@ pub fn is_set(board: &[u8], r: u32, c: u32) -> bool {
     false
 }
 
+// Writes node i of the board at index n of a map, if it is on the mesh. Answers the next index.
+fn flatten_node(
+    columns: u32,
+    rows: u32,
+    board: &[u8],
+    map: &mut [u8],
+    n: usize,
+    i: usize,
+) -> usize {
+    if 4096 <= i {
+        return n;
+    }
+    if 4096 <= n {
+        return n;
+    }
+    if rows <= (i / 64) as u32 {
+        return n;
+    }
+    if columns <= (i % 64) as u32 {
+        return n;
+    }
+    put(map, n, get(board, i));
+    n + 1
+}
+
 // Writes the part of the board that is the mesh as a map, row 0 first. Answers the map's length.
 pub fn flatten(columns: u32, rows: u32, board: &[u8], map: &mut [u8]) -> usize {
     let mut n = 0;
     let mut i = 0;
     while i < 4096 {
-        let r = (i / 64) as u32;
-        let c = (i % 64) as u32;
-        if r < rows {
-            if c < columns {
-                if n < 4096 {
-                    put(map, n, get(board, i));
-                    n += 1;
-                }
-            }
-        }
+        n = flatten_node(columns, rows, board, map, n, i);
         i += 1;
     }
     n

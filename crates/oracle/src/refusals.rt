@@ -2,6 +2,7 @@
 use crate::areas::is_in_some;
 use crate::lists::get;
 use crate::lists::is_set;
+use crate::lists::plus;
 use crate::trips::Trip;
 
 // Whether a fault is allowed at a place.
@@ -64,18 +65,14 @@ fn has_far_fault(columns: u32, rows: u32, map: &[u8]) -> bool {
 }
 
 // How many nodes a mesh has, by adding up its rows.
-fn count_nodes(columns: u32, rows: u32) -> usize {
+fn count_nodes(columns: u32, rows: u32) -> u32 {
     let mut n: u32 = 0;
     let mut r: u32 = 0;
     while r < rows {
-        if n < 10000 {
-            if columns < 100 {
-                n += columns;
-            }
-        }
+        n = plus(n, columns);
         r += 1;
     }
-    n as usize
+    n
 }
 
 // Refusals 1 to 5.
@@ -92,7 +89,7 @@ pub fn refuse_map(columns: u32, rows: u32, map: &[u8]) -> u32 {
     if 64 < rows {
         return 2;
     }
-    if count_nodes(columns, rows) != map.len() {
+    if count_nodes(columns, rows) as usize != map.len() {
         return 3;
     }
     if has_other_byte(map) {
@@ -128,7 +125,14 @@ pub fn refuse_places(columns: u32, rows: u32, board: &[u8], t: Trip) -> u32 {
 }
 
 // Refusals 6, 7 and 8: a ring is a box grown by one row each way and two columns.
-pub fn refuse_request(columns: u32, rows: u32, board: &[u8], list: &[u8], n: usize, t: Trip) -> u32 {
+pub fn refuse_request(
+    columns: u32,
+    rows: u32,
+    board: &[u8],
+    list: &[u8],
+    n: usize,
+    t: Trip,
+) -> u32 {
     let refused = refuse_places(columns, rows, board, t);
     if refused != 0 {
         return refused;
