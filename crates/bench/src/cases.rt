@@ -31,7 +31,7 @@ fn trip(s: u32, d: u32) -> Trip {
 }
 
 // Whether the map has so many blocks, with so many safe nodes outside them.
-fn has_blocks(map: &[u8], blocks: u32, safe: usize) -> bool {
+fn has_blocks(map: &[u8; 80], blocks: u32, safe: usize) -> bool {
     let mut out = [7u8; 80];
     if marked_number(mark_blocks(10, 8, map, &mut out)) == blocks {
         return count_byte(&out, 0) == safe;
@@ -51,7 +51,7 @@ fn fault_gives(i: usize, answer: u32) -> bool {
 }
 
 // Whether the route has these letters.
-fn goes(map: &[u8], s: u32, d: u32, letters: &[u8]) -> bool {
+fn goes(map: &[u8; 80], s: u32, d: u32, letters: &[u8]) -> bool {
     let mut out = [7u8; 80];
     let t = trip(s, d);
     let n = letters.len();
@@ -66,7 +66,7 @@ fn goes(map: &[u8], s: u32, d: u32, letters: &[u8]) -> bool {
 }
 
 // Whether the route is refused with this number.
-fn refuses(map: &[u8], s: u32, d: u32, k: u32) -> bool {
+fn refuses(map: &[u8; 80], s: u32, d: u32, k: u32) -> bool {
     let mut out = [7u8; 80];
     let t = trip(s, d);
     if routed_number(route(10, 8, map, source(t), destination(t), &mut out)) == refused(k) {
@@ -76,12 +76,12 @@ fn refuses(map: &[u8], s: u32, d: u32, k: u32) -> bool {
 }
 
 // Whether a fresh packet moves along these letters and then gets this answer for good.
-fn moves(map: &[u8], s: u32, d: u32, letters: &[u8], answer: u32) -> bool {
+fn moves(map: &[u8; 80], s: u32, d: u32, letters: &[u8], answer: u32) -> bool {
     follows(10, 8, map, trip(s, d), letters, letters.len(), answer)
 }
 
 // The starred cases of blocks.
-fn try_blocks(tallies: &mut [u32], k: usize) {
+fn try_blocks(tallies: &mut [u32; 64], k: usize) {
     count(tallies, k, has_blocks(&two_faults(34, 45), 1, 76));
     count(tallies, k, has_blocks(&two_faults(33, 36), 2, 78));
     count(tallies, k, has_blocks(&two_faults(34, 36), 1, 77));
@@ -90,7 +90,7 @@ fn try_blocks(tallies: &mut [u32], k: usize) {
 }
 
 // The starred cases of routes.
-fn try_routes(tallies: &mut [u32], k: usize) {
+fn try_routes(tallies: &mut [u32; 64], k: usize) {
     let a = two_faults(34, 45);
     let b = two_faults(44, 44);
     let c = two_faults(33, 36);
@@ -104,7 +104,7 @@ fn try_routes(tallies: &mut [u32], k: usize) {
 }
 
 // The other cases of routes.
-fn try_requests(tallies: &mut [u32], k: usize) {
+fn try_requests(tallies: &mut [u32; 64], k: usize) {
     let b = two_faults(44, 44);
     count(tallies, k, refuses(&b, 45, 40, 9));
     count(tallies, k, refuses(&b, 0, 46, 8));
@@ -115,7 +115,7 @@ fn try_requests(tallies: &mut [u32], k: usize) {
 }
 
 // Where faults are allowed.
-fn try_faults(tallies: &mut [u32], k: usize) {
+fn try_faults(tallies: &mut [u32; 64], k: usize) {
     count(tallies, k, fault_gives(31, refused(5)));
     count(tallies, k, fault_gives(38, refused(5)));
     count(tallies, k, fault_gives(4, refused(5)));
@@ -127,7 +127,7 @@ fn try_faults(tallies: &mut [u32], k: usize) {
 }
 
 // Which sizes are allowed.
-fn try_sizes(tallies: &mut [u32], k: usize) {
+fn try_sizes(tallies: &mut [u32; 64], k: usize) {
     let map = [0u8; 4096];
     count(tallies, k, marks(64, 64, &map, 0));
     count(tallies, k, marks(64, 1, &map[..64], 0));
@@ -138,7 +138,7 @@ fn try_sizes(tallies: &mut [u32], k: usize) {
     count(tallies, k, marks(10, 65, &map[..650], refused(2)));
 }
 
-pub fn try_bench_cases(tallies: &mut [u32], k: usize) {
+pub fn try_bench_cases(tallies: &mut [u32; 64], k: usize) {
     try_blocks(tallies, k);
     try_routes(tallies, k);
     try_requests(tallies, k);
@@ -147,7 +147,7 @@ pub fn try_bench_cases(tallies: &mut [u32], k: usize) {
 }
 
 // Moving on: the routes of the bench cases, and refusals at the start and on the way.
-pub fn try_move_on(tallies: &mut [u32], k: usize) {
+pub fn try_move_on(tallies: &mut [u32; 64], k: usize) {
     let a = two_faults(34, 45);
     let b = two_faults(44, 44);
     let c = two_faults(33, 36);
@@ -160,5 +160,9 @@ pub fn try_move_on(tallies: &mut [u32], k: usize) {
     count(tallies, k, moves(&b, 46, 46, b"", refused(8)));
     count(tallies, k, moves(&b, 44, 46, b"", refused(7)));
     count(tallies, k, moves(&b, 44, 80, b"", refused(6)));
-    count(tallies, k, moves(&two_faults(31, 44), 44, 80, b"", refused(5)));
+    count(
+        tallies,
+        k,
+        moves(&two_faults(31, 44), 44, 80, b"", refused(5)),
+    );
 }

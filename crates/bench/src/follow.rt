@@ -9,7 +9,15 @@ use oracle::trips::Trip;
 use oracle::trips::moved;
 
 // Whether moving on gives this answer, and leaves the record as this trip and last hop show it.
-pub fn answers(columns: u32, rows: u32, map: &[u8], p: Packet, answer: u32, t: Trip, last: u8) -> bool {
+pub fn answers(
+    columns: u32,
+    rows: u32,
+    map: &[u8],
+    p: Packet,
+    answer: u32,
+    t: Trip,
+    last: u8,
+) -> bool {
     let s = moved_on(columns, rows, map, p);
     let m = s.moved;
     let after = s.packet;

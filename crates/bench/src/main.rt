@@ -4,6 +4,7 @@ mod cases;
 mod follow;
 mod lines;
 mod tallies;
+
 use cases::try_bench_cases;
 use cases::try_move_on;
 use tallies::print;
