@@ -6,7 +6,7 @@ use crate::lists::plus;
 use crate::trips::Trip;
 
 // Whether a fault is allowed at a place.
-fn is_allowed(columns: u32, rows: u32, r: u32, c: u32) -> bool {
+pub fn is_allowed(columns: u32, rows: u32, r: u32, c: u32) -> bool {
     if r < 1 {
         return false;
     }
