@@ -5,15 +5,16 @@ mod cases;
 mod draws;
 mod follow;
 mod lines;
-mod trials;
 mod sends;
 mod spoilt;
 mod tallies;
+mod trials;
+
 use cases::try_bench_cases;
 use cases::try_move_on;
+use tallies::print;
 use trials::try_sized;
 use trials::try_small;
-use tallies::print;
 
 // The operations on random maps: small ones, thin ones, and the largest.
 fn try_random(tallies: &mut [u32; 64]) {

@@ -27,6 +27,38 @@ use oracle::trips::Walked;
 use oracle::trips::moved;
 use route::route;
 
+// Routes with room for so many letters.
+fn call_route(columns: u32, rows: u32, map: &[u8], t: Trip, room: usize, out: &mut [u8]) -> u32 {
+    if out.len() < room {
+        return 0;
+    }
+    routed_number(route(
+        columns,
+        rows,
+        map,
+        source(t),
+        destination(t),
+        &mut out[..room],
+    ))
+}
+
+// Whether these letters are written and nothing else.
+fn has_written(out: &[u8; 4096], letters: &[u8; 4096], w: Walked) -> bool {
+    let n = w.hops as usize;
+    if same_start(out, letters, n) {
+        return all_from(out, n, 7);
+    }
+    false
+}
+
+// What routing is to answer.
+fn routed(w: Walked) -> u32 {
+    if w.refusal == 0 {
+        return w.hops;
+    }
+    refused(w.refusal)
+}
+
 // Whether routing answers so and writes these letters and nothing else.
 fn routes(
     columns: u32,
@@ -38,22 +70,8 @@ fn routes(
     letters: &[u8; 4096],
 ) -> bool {
     let mut out = [7u8; 4096];
-    let end = room as usize;
-    if 4096 < end {
-        return false;
-    }
-    let x = routed_number(route(columns, rows, map, source(t), destination(t), &mut out[..end]));
-    if w.refusal != 0 {
-        if x == refused(w.refusal) {
-            return all_from(&out, 0, 7);
-        }
-        return false;
-    }
-    if x != w.hops {
-        return false;
-    }
-    if same_start(&out, letters, x as usize) {
-        return all_from(&out, x as usize, 7);
+    if call_route(columns, rows, map, t, room as usize, &mut out) == routed(w) {
+        return has_written(&out, letters, w);
     }
     false
 }
@@ -72,8 +90,16 @@ fn is_bounded(t: Trip, list: &[u8; 4096], n: usize, hops: u32) -> bool {
 }
 
 // Whether judging the first n letters answers so.
-fn judges(columns: u32, rows: u32, map: &[u8], t: Trip, letters: &[u8; 4096], n: usize, v: Verdict) -> bool {
-    if 4096 < n {
+fn judges(
+    columns: u32,
+    rows: u32,
+    map: &[u8],
+    t: Trip,
+    letters: &[u8],
+    n: usize,
+    v: Verdict,
+) -> bool {
+    if letters.len() < n {
         return false;
     }
     let x = judged_verdict(judge(columns, rows, map, source(t), destination(t), &letters[..n]));
@@ -133,10 +159,7 @@ fn try_hand_in(
     put(letters, i as usize, draw_letter(state));
     put(letters, plus(hops, 1) as usize, draw_letter(state));
     let n = draw_length(state, hops) as usize;
-    if 4096 < n {
-        return;
-    }
-    let v = answer_hand_in(columns, rows, board, t, &letters[..n]);
+    let v = answer_hand_in(columns, rows, board, t, letters, n);
     let held = judges(columns, rows, map, t, letters, n, v);
     count(tallies, 7, held);
     count_verdict(tallies, v.wrong, held);
@@ -179,11 +202,19 @@ fn try_record(
         return;
     }
     if x < 60 {
-        count(tallies, 8, answers(columns, rows, map, p, refused(x), t, last));
+        count(
+            tallies,
+            8,
+            answers(columns, rows, map, p, refused(x), t, last),
+        );
         return;
     }
     let h = (x % 256) as u8;
-    count(tallies, 8, answers(columns, rows, map, p, x, moved(t, h), h));
+    count(
+        tallies,
+        8,
+        answers(columns, rows, map, p, x, moved(t, h), h),
+    );
 }
 
 // One request.
@@ -209,7 +240,17 @@ fn try_send(
         count(tallies, 4, is_bounded(t, list, n, w.hops));
         try_served(tallies, columns, rows, map, t, &letters, w.hops, moving);
     }
-    try_hand_in(tallies, columns, rows, map, board, t, &mut letters, w.hops, state);
+    try_hand_in(
+        tallies,
+        columns,
+        rows,
+        map,
+        board,
+        t,
+        &mut letters,
+        w.hops,
+        state,
+    );
     try_record(tallies, columns, rows, map, board, list, n, state);
 }
 

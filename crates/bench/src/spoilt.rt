@@ -14,7 +14,6 @@ use crate::lines::all_from;
 use crate::tallies::count;
 use judge::judge;
 use marking::mark_blocks;
-use oracle::lists::flatten;
 use oracle::lists::plus;
 use oracle::lists::put;
 use oracle::refusals::refuse_map;
@@ -45,7 +44,15 @@ fn refuse(columns: u32, rows: u32, map: &[u8], t: Trip, k: u32) -> bool {
     if v.index != 0 {
         return false;
     }
-    answers(columns, rows, map, make_packet(t, b'N'), refused(k), t, b'N')
+    answers(
+        columns,
+        rows,
+        map,
+        make_packet(t, b'N'),
+        refused(k),
+        t,
+        b'N',
+    )
 }
 
 // The size, or now and then another.
@@ -67,33 +74,49 @@ fn draw_length(state: &mut u32, length: usize) -> usize {
 // Three bytes of the map are drawn anew, half the time below 2.
 fn spoil(map: &mut [u8; 4096], length: u32, state: &mut u32) {
     let n = plus(draw(state, 2), 2);
-    put(map, draw(state, length) as usize, (draw(state, n) % 256) as u8);
-    put(map, draw(state, length) as usize, (draw(state, n) % 256) as u8);
-    put(map, draw(state, length) as usize, (draw(state, n) % 256) as u8);
+    put(
+        map,
+        draw(state, length) as usize,
+        (draw(state, n) % 256) as u8,
+    );
+    put(
+        map,
+        draw(state, length) as usize,
+        (draw(state, n) % 256) as u8,
+    );
+    put(
+        map,
+        draw(state, length) as usize,
+        (draw(state, n) % 256) as u8,
+    );
 }
 
+// A mesh and the first n bytes of a map: if they are to be refused, they are.
+fn try_refused(tallies: &mut [u32; 64], columns: u32, rows: u32, map: &[u8], n: usize, t: Trip) {
+    if map.len() < n {
+        return;
+    }
+    let k = refuse_map(columns, rows, &map[..n]);
+    if k != 0 {
+        let held = refuse(columns, rows, &map[..n], t, k);
+        count(tallies, 9, held);
+        count(tallies, plus(10, k) as usize, held);
+    }
+}
+
+// Spoils a map.
 pub fn try_spoilt(
     tallies: &mut [u32; 64],
     columns: u32,
     rows: u32,
-    board: &[u8; 4096],
+    map: &mut [u8; 4096],
     length: usize,
     state: &mut u32,
 ) {
-    let mut map = [0u8; 4096];
-    flatten(columns, rows, board, &mut map);
-    spoil(&mut map, (length % 65536) as u32, state);
+    spoil(map, (length % 65536) as u32, state);
     let c = draw_size(state, columns);
     let r = draw_size(state, rows);
     let n = draw_length(state, length);
-    if 4096 < n {
-        return;
-    }
-    let k = refuse_map(c, r, &map[..n]);
-    if k != 0 {
-        let t = draw_trip(state, columns, rows);
-        let held = refuse(c, r, &map[..n], t, k);
-        count(tallies, 9, held);
-        count(tallies, plus(10, k) as usize, held);
-    }
+    let t = draw_trip(state, columns, rows);
+    try_refused(tallies, c, r, map, n, t);
 }

@@ -24,7 +24,78 @@ fn marks(columns: u32, rows: u32, map: &[u8], board: &[u8; 4096], n: usize) -> b
     false
 }
 
-// One map of so many runs of faults, and so many requests on it.
+// The board's map, and its length.
+fn write_map(columns: u32, rows: u32, board: &[u8; 4096], map: &mut [u8; 4096]) -> usize {
+    flatten(columns, rows, board, map)
+}
+
+// The boxes of the board's faults, which are marked on it.
+fn box_faults(board: &mut [u8; 4096], list: &mut [u8; 4096]) -> usize {
+    let n = find_areas(board, list);
+    paint(board, list, n);
+    n
+}
+
+// The operations on the first bytes of a map that has n blocks: the marking, and so many requests. On small meshes packets are moved along.
+fn try_start(
+    tallies: &mut [u32; 64],
+    columns: u32,
+    rows: u32,
+    map: &[u8],
+    length: usize,
+    board: &[u8; 4096],
+    list: &[u8; 4096],
+    n: usize,
+    sends: u32,
+    state: &mut u32,
+) {
+    if map.len() < length {
+        return;
+    }
+    let part = &map[..length];
+    count(tallies, 2, marks(columns, rows, part, board, n));
+    try_sends(
+        tallies,
+        columns,
+        rows,
+        part,
+        board,
+        list,
+        n,
+        sends,
+        length < 400,
+        state,
+    );
+}
+
+// The operations on a map of this length.
+fn try_unspoilt(
+    tallies: &mut [u32; 64],
+    columns: u32,
+    rows: u32,
+    map: &[u8; 4096],
+    length: usize,
+    board: &[u8; 4096],
+    list: &[u8; 4096],
+    n: usize,
+    sends: u32,
+    state: &mut u32,
+) {
+    try_start(
+        tallies,
+        columns,
+        rows,
+        map,
+        length,
+        board,
+        list,
+        n,
+        sends,
+        state,
+    );
+}
+
+// One map of so many runs of faults, with so many requests; then the map spoilt.
 fn try_map(
     tallies: &mut [u32; 64],
     columns: u32,
@@ -38,16 +109,21 @@ fn try_map(
     let mut list = [0u8; 4096];
     let mut map = [0u8; 4096];
     draw_faults(columns, rows, &mut board, runs, longest, state);
-    let length = flatten(columns, rows, &board, &mut map);
-    if 4096 < length {
-        return;
-    }
-    try_spoilt(tallies, columns, rows, &board, length, state);
-    let n = find_areas(&board, &mut list);
-    paint(&mut board, &list, n);
-    count(tallies, 2, marks(columns, rows, &map[..length], &board, n));
-    let moving = length < 400;
-    try_sends(tallies, columns, rows, &map[..length], &board, &list, n, sends, moving, state);
+    let length = write_map(columns, rows, &board, &mut map);
+    let n = box_faults(&mut board, &mut list);
+    try_unspoilt(
+        tallies,
+        columns,
+        rows,
+        &map,
+        length,
+        &board,
+        &list,
+        n,
+        sends,
+        state,
+    );
+    try_spoilt(tallies, columns, rows, &mut map, length, state);
 }
 
 // Small meshes, from one node on.

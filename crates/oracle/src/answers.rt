@@ -41,16 +41,20 @@ pub fn answer_route(
     w
 }
 
-// The verdict on a hand-in; a refusal has index 0.
-pub fn answer_hand_in(columns: u32, rows: u32, board: &[u8], t: Trip, letters: &[u8]) -> Verdict {
+// The verdict on a hand-in of the first n letters; a refusal has index 0.
+pub fn answer_hand_in(
+    columns: u32,
+    rows: u32,
+    board: &[u8],
+    t: Trip,
+    letters: &[u8],
+    n: usize,
+) -> Verdict {
     let k = refuse_places(columns, rows, board, t);
     if k != 0 {
-        return Verdict {
-            wrong: k,
-            index: 0,
-        };
+        return Verdict { wrong: k, index: 0 };
     }
-    find_verdict(columns, rows, board, t, letters)
+    find_verdict(columns, rows, board, t, letters, n)
 }
 
 // The letter of one hop, 0 for "arrived", or the number of a refusal, which is below that of a letter.

@@ -11,9 +11,15 @@ pub struct Verdict {
     pub index: usize,
 }
 
-// Judges the letters of a request that is not refused.
-pub fn find_verdict(columns: u32, rows: u32, board: &[u8], trip: Trip, letters: &[u8]) -> Verdict {
-    let n = letters.len();
+// Judges the first n letters of a request that is not refused.
+pub fn find_verdict(
+    columns: u32,
+    rows: u32,
+    board: &[u8],
+    trip: Trip,
+    letters: &[u8],
+    n: usize,
+) -> Verdict {
     let mut t = trip;
     let mut last: u8 = 0;
     let mut i = 0;

@@ -1,4 +1,4 @@
--- `find_verdict` is safe and ends: it looks at each letter once.
+-- `find_verdict` is safe and ends: it looks at n letters, one after another.
 use Prim.Native.Nat.{_≤_, _-_}
 use native.Mathlib.Omega.{arith}
 use borrow.Author.Needs.{needs}
