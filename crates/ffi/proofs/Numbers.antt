@@ -1,8 +1,8 @@
 -- The operations' promises, told in numbers. Assumes nothing.
-use mathlib.Core.Path.{_≡_, refl, _∙_, ap}
+use mathlib.Core.Path.{_≡_, refl, sym, _∙_, ap}
 use mathlib.Core.Bool.{true, false}
 use mathlib.Core.List.{List, [], _∷_}
-use Prim.Native.Nat.{ℕ, _≤_, _<_}
+use Prim.Native.Nat.{ℕ, zero, suc, _≤_, _<_}
 use native.Mathlib.Omega.{arith}
 use lib.Dec.{eqb, ltb}
 use lib.ListN.{length, set, getD}
@@ -20,7 +20,7 @@ use Rattle.mesh.specs.Operations.{markedAnswer, MarksBlocks, routedAnswer, Rout
 use Rattle.mesh.specs.Moving.{movedTold, MovesOn}
 use Rattle.mesh.specs.Judging.{judgedVerdict, judgement}
 use Rattle.mesh.proofs.Bools.{and-both}
-use Rattle.ffi.specs.Codes.{answerCode, MarksInNumbers, RoutesInNumbers, verdictCode, verdictIndex, putFirst, JudgesInNumbers, toldCode, isRecord, packetOf, numbersOf, MovesInNumbers}
+use Rattle.ffi.specs.Codes.{answerCode, MarksInNumbers, RoutesInNumbers, verdictCode, verdictIndex, putFirst, JudgesInNumbers, toldCode, headingNumber, lastOf, lastNumber, isRecord, packetOf, numbersOf, MovesInNumbers}
 
 pub number-few : (why : Refusal) → number why ≤ 10
 unfolding number
@@ -40,7 +40,6 @@ marks m e = record { answers = e ∙ ap answerCode (m .answers); writes = m .wri
 
 -- the places that the operation is given are those of the call
 module _ {s t d u : Place} (es : s ≡ t) (ed : d ≡ u) where
-
   pub routes : {columns rows x : ℕ} {map out after : List ℕ} {r : Routed} → Routes columns rows map s d out r after → x ≡ answerCode (routedAnswer r) → RoutesInNumbers columns rows map t u out x after
   routes m e = rw (← es, ← ed) record { answers = e ∙ ap answerCode (m .answers); writes = m .writes }
 
@@ -63,14 +62,18 @@ pub record-length : (xs : List ℕ) → isRecord xs ≡ true → length xs ≡ 5
 unfolding isRecord
 record-length xs t = eqb-true _ _ (and-both t .0)
 
+-- a list of five numbers, by its numbers
+five : (xs : List ℕ) → length xs ≡ 5 → getD xs 0 0 ∷ getD xs 1 0 ∷ getD xs 2 0 ∷ getD xs 3 0 ∷ getD xs 4 0 ∷ [] ≡ xs
+five [] h = absurd (omega arith)
+five (u ∷ []) h = absurd (omega arith)
+five (u ∷ v ∷ []) h = absurd (omega arith)
+five (u ∷ v ∷ w ∷ []) h = absurd (omega arith)
+five (u ∷ v ∷ w ∷ x ∷ []) h = absurd (omega arith)
+five (u ∷ v ∷ w ∷ x ∷ y ∷ []) h = refl
+five (u ∷ v ∷ w ∷ x ∷ y ∷ z ∷ zs) h = absurd (omega arith)
+
 pub filled : (xs : List ℕ) (a b c d e : ℕ) → length xs ≡ 5 → set (set (set (set (set xs 0 a) 1 b) 2 c) 3 d) 4 e ≡ a ∷ b ∷ c ∷ d ∷ e ∷ []
-filled [] a b c d e h = absurd (omega arith)
-filled (u ∷ []) a b c d e h = absurd (omega arith)
-filled (u ∷ v ∷ []) a b c d e h = absurd (omega arith)
-filled (u ∷ v ∷ w ∷ []) a b c d e h = absurd (omega arith)
-filled (u ∷ v ∷ w ∷ x ∷ []) a b c d e h = absurd (omega arith)
-filled (u ∷ v ∷ w ∷ x ∷ y ∷ []) a b c d e h = refl
-filled (u ∷ v ∷ w ∷ x ∷ y ∷ z ∷ zs) a b c d e h = absurd (omega arith)
+filled xs a b c d e h = ap (λ ys. set (set (set (set (set ys 0 a) 1 b) 2 c) 3 d) 4 e) (sym (five xs h))
 
 pub moves : {columns rows x : ℕ} {map xs after : List ℕ} {p q : Packet} {m : Moved} → isRecord xs ≡ true → p ≡ packetOf xs → MovesOn columns rows map p m q → after ≡ numbersOf q → x ≡ toldCode (movedTold m) → MovesInNumbers columns rows map xs x after
 moves t ep m ea e =
@@ -78,3 +81,19 @@ moves t ep m ea e =
 
 pub no-record : {columns rows : ℕ} {map xs : List ℕ} → isRecord xs ≡ false → MovesInNumbers columns rows map xs 65536 xs
 no-record f = record { answers = rw f refl; leaves = rw f refl }
+
+last-kept : (n : ℕ) → n < 5 → lastNumber (lastOf n) ≡ n
+unfolding lastNumber headingNumber lastOf
+last-kept zero h = refl
+last-kept (suc zero) h = refl
+last-kept (suc (suc zero)) h = refl
+last-kept (suc (suc (suc zero))) h = refl
+last-kept (suc (suc (suc (suc zero)))) h = refl
+last-kept (suc (suc (suc (suc (suc n))))) h = absurd (omega arith)
+
+-- a record that is left unchanged is the same five numbers
+pub record-kept : (xs : List ℕ) → isRecord xs ≡ true → numbersOf (packetOf xs) ≡ xs
+unfolding packetOf numbersOf isRecord
+record-kept xs t =
+    let (n, l) = and-both {a = eqb (length xs) 5} {b = ltb (getD xs 2 0) 5} t in
+    rw (last-kept (getD xs 2 0) (ltb-true (getD xs 2 0) 5 l)) (five xs (eqb-true (length xs) 5 n))
