@@ -48,6 +48,24 @@ impl Grid {
         g
     }
 
+    /// The blocks once more, by merging boxes that are too close: from the faults, each a box of its own.
+    fn merged(&self) -> Vec<[i64; 4]> {
+        let mut boxes: Vec<[i64; 4]> = vec![];
+        for (i, _) in self.marks.iter().enumerate().filter(|(_, &m)| m == 1) {
+            let (r, c) = (i as i64 / self.columns, i as i64 % self.columns);
+            let mut b = [r, r, c, c];
+            while let Some(k) = boxes.iter().position(|a| {
+                b[2] - a[3] < 3 && a[2] - b[3] < 3 && b[0] - a[1] < 2 && a[0] - b[1] < 2
+            }) {
+                let a = boxes.swap_remove(k);
+                b = [a[0].min(b[0]), a[1].max(b[1]), a[2].min(b[2]), a[3].max(b[3])];
+            }
+            boxes.push(b);
+        }
+        boxes.sort();
+        boxes
+    }
+
     fn has(&self, (r, c): At) -> bool {
         0 <= r && r < self.rows && 0 <= c && c < self.columns
     }
@@ -112,6 +130,8 @@ impl Grid {
             assert_eq!(nodes, (b[1] - b[0] + 1) * (b[3] - b[2] + 1), "a block is a rectangle");
             self.boxes.push(b);
         }
+        self.boxes.sort();
+        assert_eq!(self.boxes, self.merged(), "the blocks are the merged boxes");
     }
 
     fn on_ring(&self, (r, c): At) -> bool {
@@ -259,8 +279,16 @@ fn make_case(rng: &mut Random, columns: usize, rows: usize) -> Case {
     let mut map = vec![0u8; columns * rows];
     if columns >= 5 && rows >= 3 {
         let (w, h) = (columns - 4, rows - 2);
-        let faults = match rng.below(8) {
+        let faults = match rng.below(9) {
             0 => 0,
+            8 => {
+                // one rectangle, whole
+                let (r, c) = (rng.below(h), rng.below(w));
+                for y in r..(r + 1 + rng.below(6)).min(h) {
+                    map[(1 + y) * columns + 2 + c..(1 + y) * columns + 2 + (c + 1 + rng.below(6)).min(w)].fill(1);
+                }
+                rng.below(3)
+            }
             1 | 2 => 1 + rng.below(3),
             3 | 4 => 1 + w * h / 20 + rng.below(4),
             5 => w * h / 10,
@@ -295,7 +323,16 @@ fn coordinate(rng: &mut Random, n: u32) -> u32 {
     }
 }
 
+/// Anywhere, or just east or west of a block, or on its ring or next to it.
 fn place(rng: &mut Random, case: &Case) -> (u32, u32) {
+    if let Some(g) = &case.grid {
+        if !g.boxes.is_empty() && rng.one_in(4) {
+            let b = g.boxes[rng.below(g.boxes.len())];
+            let r = b[0] - 2 + rng.below((b[1] - b[0] + 5) as usize) as i64;
+            let c = [b[2] - 3, b[2] - 2, b[2] - 1, b[3] + 1, b[3] + 1, b[3] + 2, b[3] + 3][rng.below(7)];
+            return (r.max(0) as u32, c.max(0) as u32);
+        }
+    }
     (coordinate(rng, case.rows), coordinate(rng, case.columns))
 }
 
@@ -546,13 +583,13 @@ fn main() {
     }
     let sizes = counts.requests;
     // the largest
-    for _ in 0..60 {
+    for _ in 0..300 {
         let case = make_case(&mut rng, 64, 64);
         check_all(&mut rng, &case, 4, &mut counts);
     }
     let largest = counts.requests - sizes;
     // small ones, where blocks, rings and edges are close together
-    while counts.requests < 1_200_000 {
+    while counts.requests < 4_000_000 {
         let (columns, rows) = (1 + rng.below(15), 1 + rng.below(11));
         let case = make_case(&mut rng, columns, rows);
         check_all(&mut rng, &case, 8, &mut counts);

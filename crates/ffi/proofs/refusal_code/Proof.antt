@@ -12,7 +12,7 @@ add-result : tie.Need-add-result
 add-result c = record { fits = omega (arith, c .refusal-number .ensures, number-few (c .before .args .why)) }
 
 returns : tie.Need-returns
-returns c = search needs
+returns c = omega (arith, c .refusal-number .ensures)
 
 pub refusal-code-spec : {M : Type 1} → statement M
 refusal-code-spec = tie.close (tie.spec refusal-number-requires add-result returns)
