@@ -1,0 +1,28 @@
+-- What Mark blocks answers, in numbers. Assumes nothing.
+use borrow.Author.Needs.{needs}
+use Rattle.mesh.specs.Operations.{markedAnswer}
+use Rattle.ffi.specs.Codes.{answerCode}
+use Rattle.ffi.proofs.marked_code.Statement.{statement}
+use Rattle.ffi.proofs.marked_code.Tie as tie
+
+enum-known-answer : tie.Need-enum-known-answer
+enum-known-answer c = search needs
+
+returns : tie.Need-returns
+unfolding answerCode markedAnswer
+returns c = rw (c .before .answer .given .1)
+
+enum-known-answer-2 : tie.Need-enum-known-answer-2
+enum-known-answer-2 c = search needs
+
+refusal-code-requires : tie.Need-refusal-code-requires
+refusal-code-requires c κs = search needs
+
+returns-2 : tie.Need-returns-2
+unfolding answerCode markedAnswer
+returns-2 c = rw (c .before .before .answer2 .given .1) (c .refusal-code .ensures)
+
+pub marked-code-spec : {M : Type 1} → statement M
+marked-code-spec =
+    tie.close
+    (tie.spec enum-known-answer returns enum-known-answer-2 refusal-code-requires returns-2)

@@ -1,0 +1,47 @@
+/* A bench display: marks a map, routes a packet, judges the route and moves the packet along it.
+ *   rt staticlib ffi && cc -Iinclude examples/display.c target/staticlib/libffi.a -o display && ./display */
+#include <stdio.h>
+
+#include "pinduguil.h"
+
+enum { COLUMNS = 10, ROWS = 8, ROOM = 24704 };
+
+int main(void) {
+    static uint8_t map[COLUMNS * ROWS], marks[COLUMNS * ROWS], letters[ROOM];
+    map[3 * COLUMNS + 4] = 1;
+    map[4 * COLUMNS + 5] = 1;
+
+    uint32_t blocks = pinduguil_mark(COLUMNS, ROWS, map, sizeof map, marks, sizeof marks);
+    printf("blocks %u\n", (unsigned)blocks);
+    for (int row = ROWS - 1; row >= 0; row--) {
+        for (int column = 0; column < COLUMNS; column++) putchar(".FU"[marks[row * COLUMNS + column]]);
+        putchar('\n');
+    }
+
+    uint32_t hops = pinduguil_route(COLUMNS, ROWS, map, sizeof map, 1, 5, 6, 5, letters, sizeof letters);
+    if (hops >= PINDUGUIL_REFUSED) {
+        printf("no %u\n", (unsigned)(hops - PINDUGUIL_REFUSED));
+        return 1;
+    }
+    printf("ok %u %.*s\n", (unsigned)hops, (int)hops, (const char *)letters);
+
+    uint64_t index[1] = {0};
+    uint32_t wrong = pinduguil_judge(COLUMNS, ROWS, map, sizeof map, 1, 5, 6, 5, letters, hops, index, 1);
+    printf("judged %u, index %llu\n", (unsigned)wrong, (unsigned long long)index[0]);
+
+    uint32_t packet[5] = {1, 5, 0, 6, 5};
+    for (;;) {
+        uint32_t moved = pinduguil_move_on(COLUMNS, ROWS, map, sizeof map, packet, 5);
+        if (moved == 0) break;
+        if (moved >= PINDUGUIL_REFUSED) {
+            printf("no %u\n", (unsigned)(moved - PINDUGUIL_REFUSED));
+            return 1;
+        }
+        printf("%c to (%u, %u)\n", (int)moved, (unsigned)packet[0], (unsigned)packet[1]);
+    }
+
+    /* Refused: the destination is on a ring. */
+    uint32_t refused = pinduguil_route(COLUMNS, ROWS, map, sizeof map, 1, 1, 4, 6, letters, sizeof letters);
+    printf("no %u\n", (unsigned)(refused - PINDUGUIL_REFUSED));
+    return 0;
+}

@@ -1,0 +1,59 @@
+/* The operations of Pinduguil for C: link the static library that `rt staticlib ffi` writes (target/staticlib/libffi.a).
+ *
+ * Rows and columns are counted from 0; east raises the column, north the row. A map is columns * rows bytes, row 0 first:
+ * 0 sound, 1 faulty. Letters are the bytes 'E', 'N', 'S' and 'W'.
+ *
+ * A slice is a pointer and then the number of its elements. The pointer is never null, also where the number is 0, and an output
+ * overlaps nothing else that is handed over. All other arguments may be anything: what is wrong is refused by its number.
+ *
+ * Refusals, in the order in which they are tested:
+ *   1 columns not 1 to 64            6 source or destination off the mesh
+ *   2 rows not 1 to 64               7 source or destination in a block
+ *   3 map length not columns * rows  8 destination on a ring
+ *   4 a map byte above 1             9 a hop by the rules would be unlawful
+ *   5 a fault where none is allowed  10 the output is too short
+ */
+#ifndef PINDUGUIL_H
+#define PINDUGUIL_H
+
+#include <stddef.h>
+#include <stdint.h>
+
+/* An answer that is this or more is this plus the number of a refusal. */
+#define PINDUGUIL_REFUSED 65536u
+
+#ifdef __cplusplus
+extern "C" {
+#endif
+
+/* Mark blocks. Writes 0 safe, 1 faulty, 2 unsafe for each node and answers the number of blocks, at most 4,096; or
+ * PINDUGUIL_REFUSED plus 1 to 5 or 10. Bytes of out beyond the map's length are left alone; on a refusal all of them are. */
+uint32_t pinduguil_mark(uint32_t columns, uint32_t rows, const uint8_t *map, size_t map_length,
+                        uint8_t *out, size_t out_length);
+
+/* Route from a source to (row, column). Writes the letters of the hops and answers their number, at most 24,704; or
+ * PINDUGUIL_REFUSED plus 1 to 10. Bytes of out after the letters are left alone; on a refusal all of them are. */
+uint32_t pinduguil_route(uint32_t columns, uint32_t rows, const uint8_t *map, size_t map_length,
+                         uint32_t source_row, uint32_t source_column, uint32_t row, uint32_t column,
+                         uint8_t *out, size_t out_length);
+
+/* Judge a hand-in: letters that should lead from a source to (row, column). Answers 0 if it is passed, or what is wrong:
+ * a refusal 1 to 7, or 11 not a letter, 12 leaves the mesh, 13 reverses, 14 forbidden turn, 15 enters a block, 16 does not end at the
+ * destination. If index has room, index[0] becomes the hand-in's length (0 and 16), the index of the wrong letter (11 to 15) or 0
+ * (1 to 7). Numbers of index beyond the first are left alone. */
+uint32_t pinduguil_judge(uint32_t columns, uint32_t rows, const uint8_t *map, size_t map_length,
+                         uint32_t source_row, uint32_t source_column, uint32_t row, uint32_t column,
+                         const uint8_t *letters, size_t letters_length, uint64_t *index, size_t index_length);
+
+/* Move on: one hop of a packet. Its record is five numbers: row, column, last hop (0 none, 1 E, 2 N, 3 S, 4 W), destination row,
+ * destination column. Answers the letter of the hop, and the record shows the new place and the last hop; or 0 if it has arrived; or
+ * PINDUGUIL_REFUSED plus 1 to 9; or PINDUGUIL_REFUSED itself if the record hasn't exactly five numbers with a last hop of 0 to 4. Where
+ * no letter is answered the record is left alone. */
+uint32_t pinduguil_move_on(uint32_t columns, uint32_t rows, const uint8_t *map, size_t map_length,
+                           uint32_t *packet, size_t packet_length);
+
+#ifdef __cplusplus
+}
+#endif
+
+#endif

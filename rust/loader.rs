@@ -1,0 +1,35 @@
+//! Loads a map, marks it, routes a packet, judges the route and moves the packet along it; then what a bad request is answered.
+//!   rt staticlib ffi && rustc -O rust/loader.rs -L target/staticlib -l static=ffi -o loader && ./loader
+mod wrapper;
+use wrapper::{Mesh, Moved, Packet, Place};
+
+fn main() {
+    let (columns, rows) = (10, 8);
+    let mut map = vec![0; columns * rows];
+    map[3 * columns + 4] = 1;
+    map[4 * columns + 5] = 1;
+    let mesh = Mesh { columns: columns as u32, rows: rows as u32, map: &map };
+
+    let mut marks = vec![0; map.len()];
+    println!("blocks {:?}", mesh.mark(&mut marks));
+
+    let (source, destination) = (Place { row: 1, column: 5 }, Place { row: 6, column: 5 });
+    let mut out = vec![0; 24_704];
+    match mesh.route(source, destination, &mut out) {
+        Err(why) => println!("no {}", why.0),
+        Ok(letters) => {
+            println!("ok {} {}", letters.len(), String::from_utf8_lossy(letters));
+            println!("{:?}", mesh.judge(source, destination, letters));
+        }
+    }
+
+    let mut packet = Packet { place: source, last: None, destination };
+    while let Moved::Letter(letter) = mesh.move_on(&mut packet) {
+        println!("{} to ({}, {})", letter as char, packet.place.row, packet.place.column);
+    }
+
+    let ring = Place { row: 4, column: 6 };
+    println!("{:?}", mesh.route(source, ring, &mut out));
+    println!("{:?}", Mesh { columns: 65, ..mesh }.mark(&mut marks));
+    println!("{:?}", mesh.judge(source, destination, b"NX"));
+}

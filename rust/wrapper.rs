@@ -1,0 +1,155 @@
+//! The operations of Pinduguil as safe Rust, over the static library that `rt staticlib ffi` writes. Nothing is required of a caller:
+//! what is wrong is refused by its number (include/pinduguil.h lists them).
+#![allow(dead_code)]
+
+/// The functions of the library as they are: an answer of 65,536 or more is that plus a refusal.
+pub mod raw {
+    mod library {
+        extern "C" {
+            pub fn pinduguil_mark(columns: u32, rows: u32, map: *const u8, map_length: usize, out: *mut u8, out_length: usize) -> u32;
+            pub fn pinduguil_route(
+                columns: u32, rows: u32, map: *const u8, map_length: usize, source_row: u32, source_column: u32, row: u32, column: u32,
+                out: *mut u8, out_length: usize,
+            ) -> u32;
+            pub fn pinduguil_judge(
+                columns: u32, rows: u32, map: *const u8, map_length: usize, source_row: u32, source_column: u32, row: u32, column: u32,
+                letters: *const u8, letters_length: usize, index: *mut u64, index_length: usize,
+            ) -> u32;
+            pub fn pinduguil_move_on(columns: u32, rows: u32, map: *const u8, map_length: usize, packet: *mut u32, packet_length: usize) -> u32;
+        }
+    }
+
+    // Each call is sound: a Rust slice is a valid, non-null, aligned pair, and a `&mut` one overlaps no other.
+
+    pub fn mark(columns: u32, rows: u32, map: &[u8], out: &mut [u8]) -> u32 {
+        unsafe { library::pinduguil_mark(columns, rows, map.as_ptr(), map.len(), out.as_mut_ptr(), out.len()) }
+    }
+
+    pub fn route(columns: u32, rows: u32, map: &[u8], source: (u32, u32), destination: (u32, u32), out: &mut [u8]) -> u32 {
+        unsafe {
+            library::pinduguil_route(
+                columns, rows, map.as_ptr(), map.len(), source.0, source.1, destination.0, destination.1, out.as_mut_ptr(), out.len(),
+            )
+        }
+    }
+
+    pub fn judge(
+        columns: u32, rows: u32, map: &[u8], source: (u32, u32), destination: (u32, u32), letters: &[u8], index: &mut [u64],
+    ) -> u32 {
+        unsafe {
+            library::pinduguil_judge(
+                columns, rows, map.as_ptr(), map.len(), source.0, source.1, destination.0, destination.1, letters.as_ptr(), letters.len(),
+                index.as_mut_ptr(), index.len(),
+            )
+        }
+    }
+
+    pub fn move_on(columns: u32, rows: u32, map: &[u8], packet: &mut [u32]) -> u32 {
+        unsafe { library::pinduguil_move_on(columns, rows, map.as_ptr(), map.len(), packet.as_mut_ptr(), packet.len()) }
+    }
+}
+
+/// The number of a refusal, 1 to 10.
+#[derive(Clone, Copy, Debug, PartialEq, Eq)]
+pub struct Refusal(pub u32);
+
+const REFUSED: u32 = 65_536;
+
+fn answer(x: u32) -> Result<u32, Refusal> {
+    if x < REFUSED { Ok(x) } else { Err(Refusal(x - REFUSED)) }
+}
+
+/// A row and a column, counted from 0.
+#[derive(Clone, Copy, Debug, PartialEq, Eq)]
+pub struct Place {
+    pub row: u32,
+    pub column: u32,
+}
+
+impl Place {
+    fn pair(self) -> (u32, u32) {
+        (self.row, self.column)
+    }
+}
+
+#[derive(Clone, Copy, Debug, PartialEq, Eq)]
+pub enum Heading {
+    East = 1,
+    North = 2,
+    South = 3,
+    West = 4,
+}
+
+/// A packet's record.
+#[derive(Clone, Copy, Debug, PartialEq, Eq)]
+pub struct Packet {
+    pub place: Place,
+    pub last: Option<Heading>,
+    pub destination: Place,
+}
+
+#[derive(Clone, Copy, Debug, PartialEq, Eq)]
+pub enum Moved {
+    Letter(u8),
+    Arrived,
+    Refused(Refusal),
+}
+
+#[derive(Clone, Copy, Debug, PartialEq, Eq)]
+pub enum Judged {
+    /// with the length
+    Passed(u64),
+    /// the number of what is wrong, 1 to 7 or 11 to 16, and the index
+    Failed(u32, u64),
+}
+
+/// A mesh and its fault map: columns × rows bytes, row 0 first, 0 sound, 1 faulty.
+#[derive(Clone, Copy, Debug)]
+pub struct Mesh<'a> {
+    pub columns: u32,
+    pub rows: u32,
+    pub map: &'a [u8],
+}
+
+impl Mesh<'_> {
+    /// Writes 0 safe, 1 faulty, 2 unsafe for each node, and answers the number of blocks.
+    pub fn mark(&self, out: &mut [u8]) -> Result<u32, Refusal> {
+        answer(raw::mark(self.columns, self.rows, self.map, out))
+    }
+
+    /// Writes the letters of the hops to the start of `out`, and answers them.
+    pub fn route<'o>(&self, source: Place, destination: Place, out: &'o mut [u8]) -> Result<&'o [u8], Refusal> {
+        let hops = answer(raw::route(self.columns, self.rows, self.map, source.pair(), destination.pair(), out))?;
+        Ok(&out[..hops as usize])
+    }
+
+    pub fn judge(&self, source: Place, destination: Place, letters: &[u8]) -> Judged {
+        let mut index = [0];
+        match raw::judge(self.columns, self.rows, self.map, source.pair(), destination.pair(), letters, &mut index) {
+            0 => Judged::Passed(index[0]),
+            number => Judged::Failed(number, index[0]),
+        }
+    }
+
+    /// Moves the packet by one hop; its record is unchanged unless a letter is answered.
+    pub fn move_on(&self, packet: &mut Packet) -> Moved {
+        let last = packet.last.map_or(0, |h| h as u32);
+        let (place, to) = (packet.place, packet.destination);
+        let mut numbers = [place.row, place.column, last, to.row, to.column];
+        match answer(raw::move_on(self.columns, self.rows, self.map, &mut numbers)) {
+            Err(why) => Moved::Refused(why),
+            Ok(0) => Moved::Arrived,
+            Ok(letter) => {
+                packet.place = Place { row: numbers[0], column: numbers[1] };
+                packet.last = match numbers[2] {
+                    1 => Some(Heading::East),
+                    2 => Some(Heading::North),
+                    3 => Some(Heading::South),
+                    4 => Some(Heading::West),
+                    _ => None,
+                };
+                Moved::Letter(letter as u8)
+            }
+        }
+    }
+}
