@@ -19,7 +19,7 @@ use Rattle.mesh.specs.Moving as moving
 use Rattle.mesh.specs.Moving.{Told, moveRefusal, told, recordAfter}
 use Rattle.mesh.specs.Judging.{Verdict, passed, failed, judgement}
 
--- what is returned, or 65,536 plus the refusal
+-- what is returned, which is below 65,536 (proofs/Theorems.antt), or 65,536 plus the refusal
 unfoldable pub answerCode : Answer → ℕ
 answerCode (returned n) = n
 answerCode (refused k) = 65536 + k

@@ -1,0 +1,74 @@
+-- What is returned is below 65,536, so that no answer can be taken for a refusal. Assumes nothing.
+use mathlib.Core.Path.{_≡_, refl, sym, _∙_}
+use mathlib.Core.Logic.{inl, inr}
+use mathlib.Core.Bool.{Bool, true, false, cond, _||_}
+use mathlib.Core.List.{List}
+use Prim.Native.Nat.{ℕ, zero, suc, _*_, _≤_, _<_}
+use native.Mathlib.Omega.{arith}
+use lib.ListN.{length}
+use Rattle.mesh.specs.declared.Place.{Place}
+use Rattle.mesh.specs.Mesh.{Mesh, mesh}
+use Rattle.mesh.specs.Blocks.{marked, blocks, select}
+use Rattle.mesh.specs.Refusals.{mapRefusals, placeRefusals, offMesh, inBlock, onARing, unserved}
+use Rattle.mesh.specs.Operations.{markRefusal, routeRefusal, hopsOf}
+use Rattle.mesh.proofs.Bools.{value}
+use Rattle.mesh.proofs.Index.{few-nodes}
+use Rattle.mesh.proofs.Refusals.{refused-first, others-next, accepted}
+use Rattle.block_theory.proofs.Marking.{marked-length}
+use Rattle.block_theory.proofs.Theorems.{obstacles}
+use Rattle.maps.specs.Sized.{Sized}
+use Rattle.route.specs.Marked.{requestRefusals}
+use Rattle.route.proofs.Requests.{request}
+use Rattle.route.proofs.Routed.{rest-hops, starts}
+
+select-few : {A : Type 0} (t : ℕ → Bool) (f : ℕ → A) (n i : ℕ) → length (select t f n i) ≤ n
+unfolding select
+select-few t f zero i = omega arith
+select-few t f (suc n) i =
+    elim (value (t i)) [
+      | inl e ↦ rw e (omega (arith, select-few t f n (suc i)))
+      | inr e ↦ rw e (omega (arith, select-few t f n (suc i)))
+    ]
+
+blocks-within : (w : Mesh) → length (blocks w) ≤ w .columns * w .rows
+unfolding blocks
+blocks-within w = select-few _ _ (w .columns * w .rows) 0
+
+-- what follows the four tests counts only where none of them holds
+first-none : (a b r u : Bool) (n : ℕ) → cond a 6 (cond b 7 (cond r 8 (cond u 9 n))) ≡ 0 → _≡_ {A = ℕ} (cond a 6 (cond b 7 (cond r 8 (cond u 9 0)))) 0
+first-none true b r u n h = h
+first-none false true r u n h = h
+first-none false false true u n h = h
+first-none false false false true n h = h
+first-none false false false false n h = refl
+
+request-clear : (w : Mesh) (s d : Place) (n : ℕ) → requestRefusals w s d n ≡ 0 → requestRefusals w s d 0 ≡ 0
+unfolding requestRefusals placeRefusals
+request-clear w s d n h =
+    first-none (offMesh w s || offMesh w d) (inBlock w s || inBlock w d) (onARing w d) (unserved w s d) n h
+
+module _ (columns rows : ℕ) (map : List ℕ) where
+  clear-by : (k others : ℕ) → mapRefusals columns rows map 0 ≡ k → mapRefusals columns rows map others ≡ 0 → mapRefusals columns rows map 0 ≡ 0
+  clear-by zero others e h = e
+  clear-by (suc k) others e h = absurd (omega (arith, h, refused-first columns rows map others e))
+
+  map-clear : (others : ℕ) → mapRefusals columns rows map others ≡ 0 → mapRefusals columns rows map 0 ≡ 0
+  map-clear others h = clear-by (mapRefusals columns rows map 0) others refl h
+
+  pub blocks-few : (out : List ℕ) → markRefusal columns rows map out ≡ 0 → length (blocks (marked (mesh columns rows map))) < 65536
+  unfolding markRefusal
+  blocks-few out h =
+      let a = accepted columns rows map (map-clear _ h) in
+      omega (arith, blocks-within (marked (mesh columns rows map)), few-nodes columns rows (a .few-columns) (a .few-rows))
+
+  pub hops-few : (s d : Place) (out : List ℕ) → routeRefusal columns rows map s d out ≡ 0 → length (hopsOf (marked (mesh columns rows map)) s d) < 65536
+  unfolding routeRefusal requestRefusals
+  hops-few s d out h =
+      let clear = map-clear _ h in
+      let w = marked (mesh columns rows map) in
+      let a = accepted columns rows map clear in
+      let fits : Sized columns rows (w .map) =
+      record { few-columns = a .few-columns; few-rows = a .few-rows; size = marked-length (mesh columns rows map) ∙ a .size } in
+      let q = request w s d (request-clear w s d _ (sym (others-next columns rows map _ clear) ∙ h)) in
+      let short = starts columns rows (w .map) s d fits (obstacles a) q .leads .enough in
+      omega (arith, rw (rest-hops columns rows (w .map) s d fits (obstacles a) q) at short)
