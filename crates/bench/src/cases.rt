@@ -89,16 +89,23 @@ fn try_blocks(tallies: &mut [u32; 64], k: usize) {
     count(tallies, k, has_blocks(&two_faults(24, 44), 2, 78));
 }
 
-// The starred cases of routes.
+// The starred cases of routes on map A.
 fn try_routes(tallies: &mut [u32; 64], k: usize) {
     let a = two_faults(34, 45);
-    let b = two_faults(44, 44);
-    let c = two_faults(33, 36);
     count(tallies, k, goes(&a, 15, 65, b"WNWWNNNNEEE"));
     count(tallies, k, goes(&a, 14, 39, b"NWWNENNEEEESSEE"));
     count(tallies, k, goes(&a, 30, 39, b"EEENNEEEESSEE"));
     count(tallies, k, goes(&a, 49, 40, b"WWWNWWWWSWW"));
-    count(tallies, k, goes(&c, 30, 39, b"ENEEEESSEENEE"));
+}
+
+// The starred cases of routes on maps B and C.
+fn try_more_routes(tallies: &mut [u32; 64], k: usize) {
+    let b = two_faults(44, 44);
+    count(
+        tallies,
+        k,
+        goes(&two_faults(33, 36), 30, 39, b"ENEEEESSEENEE"),
+    );
     count(tallies, k, refuses(&b, 45, 65, 9));
     count(tallies, k, goes(&b, 45, 49, b"EEEE"));
 }
@@ -141,25 +148,42 @@ fn try_sizes(tallies: &mut [u32; 64], k: usize) {
 pub fn try_bench_cases(tallies: &mut [u32; 64], k: usize) {
     try_blocks(tallies, k);
     try_routes(tallies, k);
+    try_more_routes(tallies, k);
     try_requests(tallies, k);
     try_faults(tallies, k);
     try_sizes(tallies, k);
 }
 
-// Moving on: the routes of the bench cases, and refusals at the start and on the way.
-pub fn try_move_on(tallies: &mut [u32; 64], k: usize) {
-    let a = two_faults(34, 45);
+// Moving on along routes of the bench cases.
+fn try_arrivals(tallies: &mut [u32; 64], k: usize) {
     let b = two_faults(44, 44);
-    let c = two_faults(33, 36);
-    count(tallies, k, moves(&a, 15, 65, b"WNWWNNNNEEE", 0));
-    count(tallies, k, moves(&c, 30, 39, b"ENEEEESSEENEE", 0));
+    count(
+        tallies,
+        k,
+        moves(&two_faults(34, 45), 15, 65, b"WNWWNNNNEEE", 0),
+    );
+    count(
+        tallies,
+        k,
+        moves(&two_faults(33, 36), 30, 39, b"ENEEEESSEENEE", 0),
+    );
     count(tallies, k, moves(&b, 45, 49, b"EEEE", 0));
     count(tallies, k, moves(&b, 47, 47, b"", 0));
+}
+
+// Refusals of moving on, at the start and on the way.
+fn try_stops(tallies: &mut [u32; 64], k: usize) {
+    let b = two_faults(44, 44);
     count(tallies, k, moves(&b, 45, 65, b"", refused(9)));
     count(tallies, k, moves(&b, 45, 40, b"N", refused(9)));
     count(tallies, k, moves(&b, 46, 46, b"", refused(8)));
     count(tallies, k, moves(&b, 44, 46, b"", refused(7)));
     count(tallies, k, moves(&b, 44, 80, b"", refused(6)));
+}
+
+pub fn try_move_on(tallies: &mut [u32; 64], k: usize) {
+    try_arrivals(tallies, k);
+    try_stops(tallies, k);
     count(
         tallies,
         k,

@@ -19,12 +19,12 @@ use trials::try_small;
 // The operations on random maps: small ones, thin ones, and the largest.
 fn try_random(tallies: &mut [u32; 64]) {
     let mut state: u32 = 2003;
-    try_small(tallies, 500, 10, &mut state);
+    try_small(tallies, 2000, 10, &mut state);
     try_sized(tallies, 64, 6, 4, 30, 20, 20, &mut state);
     try_sized(tallies, 7, 64, 4, 30, 20, 20, &mut state);
-    try_sized(tallies, 64, 64, 20, 1, 4, 10, &mut state);
-    try_sized(tallies, 64, 64, 250, 1, 4, 10, &mut state);
-    try_sized(tallies, 64, 64, 24, 40, 4, 10, &mut state);
+    try_sized(tallies, 64, 64, 20, 1, 10, 20, &mut state);
+    try_sized(tallies, 64, 64, 250, 1, 10, 20, &mut state);
+    try_sized(tallies, 64, 64, 24, 40, 10, 20, &mut state);
 }
 
 fn print_refusals(tallies: &[u32; 64]) {
