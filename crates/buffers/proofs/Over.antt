@@ -1,13 +1,18 @@
 -- Bytes written one after another stand as a whole. Assumes nothing.
 use mathlib.Core.Path.{_≡_, refl, sym, ap, _∙_}
 use mathlib.Core.List.{List, [], _∷_, _++_, append-assoc}
-use Prim.Native.Nat.{ℕ, suc, _+_, _≤_}
+use Prim.Native.Nat.{ℕ, zero, suc, _+_, _≤_}
 use native.Mathlib.Nat.{add-zero, zero-add}
 use native.Mathlib.Numerals.{add-one}
 use native.Mathlib.Omega.{arith}
 use lib.ListN.{length, take, drop, set, length-set, length-append, take-append-drop}
 use lib.Seq.{take-at, take-suc-set, drop-set-lt, length-take-le}
 use Rattle.buffers.specs.Over.{over, Puts}
+
+pub set-beyond : (xs : List ℕ) (i y : ℕ) → length xs ≤ i → xs ≡ set xs i y
+set-beyond [] i y h = refl
+set-beyond (x ∷ xs) zero y h = absurd (omega arith)
+set-beyond (x ∷ xs) (suc i) y h = ap (λ zs. x ∷ zs) (set-beyond xs i y (omega arith))
 
 pub over-length : (xs : List ℕ) (i : ℕ) (ys : List ℕ) → length (over xs i ys) ≡ length xs
 unfolding over

@@ -1,8 +1,19 @@
-// Bytes written into a lent buffer, one after another.
+// Bytes written into a lent buffer.
+ghost use mathlib.Core.Path.{_≡_};
 ghost use mathlib.Core.List.{[], _∷_};
 ghost use Prim.Native.Nat.{_≤_, _<_, _+_};
-ghost use lib.ListN.{length};
+ghost use lib.ListN.{length, set};
 ghost use Rattle.buffers.specs.Over.{Puts};
+
+// Writes a byte at index i, if the buffer has that index.
+pub fn set(out: &mut [u8], i: usize, byte: u8)
+    ensures { λ _. ⌜ now (out .exit) ≡ set (now (out .entry)) i byte ⌝ }
+{
+    if out.len() <= i {
+        return;
+    }
+    out[i] = byte;
+}
 
 // Writes a byte into a buffer at index at, and answers the index after it.
 pub fn put_byte(out: &mut [u8], at: usize, byte: u8) -> usize

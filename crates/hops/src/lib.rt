@@ -25,13 +25,11 @@ fn stays(columns: u32, rows: u32, r: Row, c: Column, h: Heading) -> bool
     requires { ⌜ (r .0 < 64) × (c .0 < 64) ⌝ }
     ensures { λ x. ⌜ x ≡ stays columns rows h (r .0) (c .0) ⌝ }
 {
-    let row = r.0;
-    let column = c.0;
     match h {
-        Heading::East => return column + 1 < columns,
-        Heading::North => return row + 1 < rows,
-        Heading::South => return 1 <= row,
-        Heading::West => return 1 <= column,
+        Heading::East => return c.0 + 1 < columns,
+        Heading::North => return r.0 + 1 < rows,
+        Heading::South => return 1 <= r.0,
+        Heading::West => return 1 <= c.0,
     }
 }
 
@@ -40,9 +38,8 @@ pub fn test_hop(columns: u32, rows: u32, marks: &[u8], p: Packet, h: Heading) ->
     requires { ⌜ Sized columns rows (now marks) × (p .place .row .0 < 64) × (p .place .column .0 < 64) ⌝ }
     ensures { λ x. ⌜ testedNumber x ≡ letterFault (tripOf (mesh columns rows (now (marks .entry))) p) (at p) (Hop h) ⌝ }
 {
-    let place = p.place;
-    let r = place.row;
-    let c = place.column;
+    let r = p.place.row;
+    let c = p.place.column;
     let l = p.last;
     if !stays(columns, rows, r, c, h) {
         return Tested::Wrong(Fault::LeavesMesh);
@@ -110,14 +107,8 @@ pub fn moved(p: Packet, h: Heading) -> Packet
 pub fn is_there(p: Packet) -> bool
     ensures { λ x. ⌜ x ≡ isThere p ⌝ }
 {
-    let place = p.place;
-    let destination = p.destination;
-    let r = place.row;
-    let c = place.column;
-    let to_r = destination.row;
-    let to_c = destination.column;
-    if r.0 != to_r.0 {
+    if p.place.row.0 != p.destination.row.0 {
         return false;
     }
-    c.0 == to_c.0
+    p.place.column.0 == p.destination.column.0
 }

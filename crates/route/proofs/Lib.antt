@@ -1,5 +1,4 @@
 pub mod Following
-pub mod Room
 pub mod Requests
 pub mod Routed
 pub mod Mapped

@@ -5,7 +5,7 @@ use mathlib.Core.List.{List}
 use Prim.Native.Nat.{ℕ, _+_, _*_, _≤_, _<_}
 use native.Mathlib.Nat.{zero-add, mul-comm}
 use native.Mathlib.Omega.{arith}
-use borrow.Author.Tests.{leb-true, leb-false, lt-ltb, le-ltb}
+use borrow.Author.Tests.{leb-true, leb-false, le-leb, lt-ltb, le-ltb}
 use lib.Dec.{ltb, leb}
 use lib.ListN.{length}
 use Rattle.mesh.specs.declared.Heading.{Heading}
@@ -29,7 +29,7 @@ use Rattle.walk_theory.proofs.Theorems.{destination-course, source-served, requ
 use Rattle.maps.specs.Sized.{Sized}
 use Rattle.places.proofs.Placed.{not-off, on-row, on-column}
 use Rattle.buffers.specs.Over.{over}
-use Rattle.route.specs.Following.{hopLimit, rest, OnWay, Going}
+use Rattle.route.specs.Following.{hopLimit, rest, Going}
 use Rattle.route.specs.Marked.{requestRefusals, refusalOn, RoutesOn}
 use Rattle.route.proofs.Requests.{Request, request-next}
 use Rattle.buffers.proofs.Over.{over-all}
@@ -63,7 +63,7 @@ module _ (columns rows : ℕ) (marks : List ℕ) (s d : Place) (sized : Sized co
       same-walk (destination-course w d o (q .destination-on) (q .destination-free) (q .off-rings)) _ _
       (source-served w s d (q .source-on) (q .source-free) (q .served)) hopLimit _ bound-few (omega arith)
 
-  pub starts : OnWay columns rows marks (start s d) hopLimit
+  pub starts : Going columns rows marks (start s d) 0 hopLimit
   starts =
       let w = mesh columns rows marks in
       let on = not-off w s (q .source-on) in
@@ -73,15 +73,11 @@ module _ (columns rows : ℕ) (marks : List ℕ) (s d : Place) (sized : Sized co
         row = on-row w _ _ on;
         column = on-column w _ _ on;
         leads = record { lawfully = rw rest-hops (arrives .route); enough = rw rest-hops (omega (arith, arrives .hops, bound-few)) };
+        few = omega arith;
       }
 
-pub going-start : {columns rows : ℕ} {marks : List ℕ} {p : Packet} (out : List ℕ) → OnWay columns rows marks p hopLimit → leb (length (rest hopLimit (mesh columns rows marks) p)) (length out) ≡ true → Going columns rows marks p out 0 hopLimit
-going-start {columns} {rows} {marks} {p} out g h =
-    record {
-      on-way = g;
-      room = omega (arith, leb-true (length (rest hopLimit (mesh columns rows marks) p)) (length out) h);
-      few = omega arith;
-    }
+pub room-enough : {columns rows : ℕ} {marks : List ℕ} {p : Packet} (room : ℕ) → Going columns rows marks p 0 hopLimit → 24704 ≤ room → true ≡ leb (length (rest hopLimit (mesh columns rows marks) p)) room
+room-enough room g h = sym (le-leb _ room (omega (arith, g .leads .enough)))
 
 module _ (w : Mesh) (s d : Place) (out : List ℕ) where
   refused : (why : Refusal) → refusalOn w s d out ≡ number why → RoutesOn w s d out (Refused why) out

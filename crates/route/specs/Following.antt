@@ -1,9 +1,9 @@
 -- What the two modes ask and promise: the rest of a walk, its letters from index made on. Assumes nothing.
 use mathlib.Core.Path.{_≡_}
 use mathlib.Core.Bool.{true}
-use mathlib.Core.List.{List, []}
+use mathlib.Core.List.{List}
 use Prim.Native.Nat.{ℕ, _+_, _≤_, _<_}
-use lib.ListN.{length, set}
+use lib.ListN.{length}
 use Rattle.mesh.specs.declared.Heading.{Heading}
 use Rattle.mesh.specs.declared.Packet.{Packet}
 use Rattle.mesh.specs.Mesh.{Mesh, mesh, letters}
@@ -27,19 +27,14 @@ abbrev pub hopLimit : ℕ
 hopLimit = 24705
 
 -- the packet is on the mesh, and fewer hops than left lead to its destination
-pub record OnWay (columns rows : ℕ) (marks : List ℕ) (p : Packet) (left : ℕ) : Type 0 where
+pub record Going (columns rows : ℕ) (marks : List ℕ) (p : Packet) (made left : ℕ) : Type 0 where
   pub sized : Sized columns rows marks
   pub row : p .place .row .0 < rows
   pub column : p .place .column .0 < columns
   pub leads : Leads left (tripOf (mesh columns rows marks) p) (at p)
-
--- and their letters have room from index made on
-pub record Going (columns rows : ℕ) (marks : List ℕ) (p : Packet) (out : List ℕ) (made left : ℕ) : Type 0 where
-  pub on-way : OnWay columns rows marks p left
-  pub room : made + length (rest left (mesh columns rows marks) p) ≤ length out
   pub few : made + left ≤ hopLimit
 
--- the hops are counted and their letters written
+-- the hops are counted, and their letters written where there is room for them
 pub record Follows (w : Mesh) (p : Packet) (out : List ℕ) (made left x : ℕ) (after : List ℕ) : Type 0 where
   pub counts : x ≡ made + length (rest left w p)
   pub writes : after ≡ over out made (letters (rest left w p))

@@ -1,22 +1,24 @@
 // The operation "Route". A route is followed in two modes that hand over to each other.
 ghost use mathlib.Core.Path.{_≡_};
-ghost use mathlib.Core.Bool.{false};
+ghost use mathlib.Core.Bool.{true};
 ghost use lib.Dec.{eqb, leb};
 ghost use lib.ListN.{length, set};
 ghost use Rattle.mesh.specs.Mesh.{mesh, letter};
 ghost use Rattle.mesh.specs.Blocks.{bad, blocks};
-ghost use Rattle.mesh.specs.Packets.{isThere, movedPacket};
-ghost use Rattle.mesh.specs.Moving.{hopFrom};
+ghost use Rattle.mesh.specs.Packets.{movedPacket};
 ghost use Rattle.mesh.specs.Refusals.{checkedNumber};
 ghost use Rattle.mesh.specs.Operations.{Routes};
 ghost use Rattle.block_theory.specs.Obstacles.{Obstacles};
 ghost use Rattle.maps.specs.Sized.{Sized};
-ghost use Rattle.route.specs.Following.{hopLimit, rest, OnWay, Going, Follows};
+ghost use Rattle.hops.specs.Lands.{Lands};
+ghost use Rattle.route.specs.Following.{hopLimit, rest, Going, Follows};
 ghost use Rattle.route.specs.Marked.{requestRefusals, RoutesOn};
+use buffers::set;
 use hops::is_there;
 use hops::moved;
 use marking::mark_map;
 use mesh::Checked;
+use mesh::Heading;
 use mesh::Last;
 use mesh::Packet;
 use mesh::Place;
@@ -24,40 +26,28 @@ use mesh::Refusal;
 use mesh::Routed;
 use places::check_places;
 use places::is_on_ring;
-use rules::hop;
+use rules::in_row;
 use rules::is_unserved;
+use rules::other_row;
 use turns::letter;
 
 // Whether the packet is in its destination's row.
 fn is_in_row(p: Packet) -> bool
     ensures { λ x. ⌜ x ≡ eqb (p .place .row .0) (p .destination .row .0) ⌝ }
 {
-    let place = p.place;
-    let destination = p.destination;
-    let r = place.row;
-    let to_r = destination.row;
-    r.0 == to_r.0
+    p.place.row.0 == p.destination.row.0
 }
 
-// One hop by the rules: its letter is written at index made.
-fn advance(
-    columns: u32,
-    rows: u32,
-    marks: &[u8],
-    p: Packet,
-    out: &mut [u8],
-    made: u32,
-    left: u32,
-) -> Packet
-    requires { ⌜ Going columns rows (now marks) p (now out) made left × (isThere p ≡ false) ⌝ }
-    ensures { λ x. ⌜ (x ≡ movedPacket (hopFrom (mesh columns rows (now (marks .entry))) p) p) × (now (out .exit) ≡ set (now (out .entry)) made (letter (hopFrom (mesh columns rows (now (marks .entry))) p))) ⌝ }
+// The packet after the hop, whose letter is written at index made, if there is room for it.
+fn advance(p: Packet, h: Heading, out: &mut [u8], made: u32) -> Packet
+    requires { ⌜ Lands h (p .place .row .0) (p .place .column .0) ⌝ }
+    ensures { λ x. ⌜ (x ≡ movedPacket h p) × (now (out .exit) ≡ set (now (out .entry)) made (letter h)) ⌝ }
 {
-    let h = hop(columns, rows, marks, p);
-    out[made as usize] = letter(h);
+    set(out, made as usize, letter(h));
     moved(p, h)
 }
 
-// Straight travel. Where the packet is stopped in its destination's row, it leaves the row: it goes round a block.
+// Straight travel along the destination's row. Where the packet is stopped it leaves the row: it goes round a block.
 fn straight(
     columns: u32,
     rows: u32,
@@ -67,27 +57,25 @@ fn straight(
     begun: u32,
     limit: u32,
 ) -> u32
-    requires { ⌜ Going columns rows (now marks) packet (now out) begun limit ⌝ }
+    requires { ⌜ Going columns rows (now marks) packet begun limit × (eqb (packet .place .row .0) (packet .destination .row .0) ≡ true) ⌝ }
     ensures { λ x. ⌜ Follows (mesh columns rows (now (marks .entry))) packet (now (out .entry)) begun limit x (now (out .exit)) ⌝ }
 {
     let mut p = packet;
     let mut made = begun;
     let mut left = limit;
     while !is_there(p) {
-        let in_row = is_in_row(p);
-        p = advance(columns, rows, marks, p, out, made, left);
+        let h = in_row(columns, rows, marks, p);
+        p = advance(p, h, out, made);
         made += 1;
         left -= 1;
-        if in_row {
-            if !is_in_row(p) {
-                return round_block(columns, rows, marks, p, out, made, left);
-            }
+        if !is_in_row(p) {
+            return round_block(columns, rows, marks, p, out, made, left);
         }
     }
     made
 }
 
-// Travel round a block: away from the row, past the block and back.
+// Travel in other rows, round the blocks and to the destination's row; then straight on.
 fn round_block(
     columns: u32,
     rows: u32,
@@ -97,39 +85,33 @@ fn round_block(
     begun: u32,
     limit: u32,
 ) -> u32
-    requires { ⌜ Going columns rows (now marks) packet (now out) begun limit × (eqb (packet .place .row .0) (packet .destination .row .0) ≡ false) ⌝ }
+    requires { ⌜ Going columns rows (now marks) packet begun limit ⌝ }
     ensures { λ x. ⌜ Follows (mesh columns rows (now (marks .entry))) packet (now (out .entry)) begun limit x (now (out .exit)) ⌝ }
 {
     let mut p = packet;
     let mut made = begun;
     let mut left = limit;
     while !is_in_row(p) {
-        p = advance(columns, rows, marks, p, out, made, left);
+        let h = other_row(columns, rows, marks, p);
+        p = advance(p, h, out, made);
         made += 1;
         left -= 1;
     }
     straight(columns, rows, marks, p, out, made, left)
 }
 
-// Whether the hops from here to the destination fit into so many bytes. No route has more than 24704.
+// Whether the hops from here to the destination fit into so many bytes. No route has more than 24704; for less room they are counted first,
+// and written nowhere.
 fn has_room(columns: u32, rows: u32, marks: &[u8], packet: Packet, room: usize) -> bool
-    requires { ⌜ OnWay columns rows (now marks) packet hopLimit ⌝ }
+    requires { ⌜ Going columns rows (now marks) packet 0 hopLimit ⌝ }
     ensures { λ x. ⌜ x ≡ leb (length (rest hopLimit (mesh columns rows (now (marks .entry))) packet)) room ⌝ }
 {
     if 24704 <= room {
         return true;
     }
-    let mut p = packet;
-    let mut n = 0;
-    while n < room {
-        if is_there(p) {
-            return true;
-        }
-        let h = hop(columns, rows, marks, p);
-        p = moved(p, h);
-        n += 1;
-    }
-    is_there(p)
+    let mut nowhere = [0u8; 1];
+    let hops = round_block(columns, rows, marks, packet, &mut nowhere, 0, 24705);
+    hops as usize <= room
 }
 
 // Refusals 6 to 9, in this order.
@@ -174,7 +156,7 @@ pub fn route_marked(
     if !has_room(columns, rows, marks, fresh, out.len()) {
         return Routed::Refused(Refusal::Room);
     }
-    let hops = straight(columns, rows, marks, fresh, out, 0, 24705);
+    let hops = round_block(columns, rows, marks, fresh, out, 0, 24705);
     Routed::Hops(hops)
 }
 

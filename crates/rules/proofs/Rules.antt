@@ -95,15 +95,13 @@ module _ (w : Trip) (r c : ℕ) where
     pub along-leaving : x ≡ false → g ≡ leaving w r c h → g ≡ otherRow w r c (made h)
     along-leaving f q = rw (toward-or-away h v, ← et, ← ex, f) q
 
-  -- rules 4 and 6, by the last hop
-  module _ {h g : Heading} (q : g ≡ across w r c h) where
-    pub after-east : h ≡ E → g ≡ otherRow w r c (made h)
-    unfolding otherRow
-    after-east e = rw e (rw e at q)
-
-    pub after-west : h ≡ W → g ≡ otherRow w r c (made h)
-    unfolding otherRow
-    after-west e = rw e (rw e at q)
+  -- rules 4 and 6
+  pub after-level : (h : Heading) → same h N || same h S ≡ false → otherRow w r c (made h) ≡ across w r c h
+  unfolding otherRow same letter
+  after-level E f = refl
+  after-level N f = true-false refl f
+  after-level S f = true-false refl f
+  after-level W f = refl
 
   -- refusal 9
   module _ {x : Bool} (ex : x ≡ own w E c) where

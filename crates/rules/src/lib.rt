@@ -18,6 +18,7 @@ use mesh::Packet;
 use mesh::Place;
 use mesh::Row;
 use turns::is_same;
+use turns::is_vertical;
 
 // The side of that column, from this one: E if it is greater, else W.
 fn side(from: Column, to: Column) -> Heading
@@ -54,15 +55,13 @@ fn is_own(s: Heading, c: Column) -> bool
 }
 
 // Whether the packet is stopped: the next node to the side is in a block, or the second one is and the column permits the side's turns.
-pub fn is_stopped(columns: u32, rows: u32, marks: &[u8], p: Packet) -> bool
+fn is_stopped(columns: u32, rows: u32, marks: &[u8], p: Packet) -> bool
     requires { ⌜ Sized columns rows (now marks) × (p .place .row .0 < 64) × (p .place .column .0 < 64) ⌝ }
     ensures { λ x. ⌜ x ≡ stopped (tripOf (mesh columns rows (now (marks .entry))) p) (p .place .row .0) (p .place .column .0) ⌝ }
 {
-    let place = p.place;
-    let destination = p.destination;
-    let r = place.row;
-    let c = place.column;
-    let h = side(c, destination.column);
+    let r = p.place.row;
+    let c = p.place.column;
+    let h = side(c, p.destination.column);
     if is_bad_ahead(columns, rows, marks, r, c, h, 1) {
         return true;
     }
@@ -92,16 +91,14 @@ fn leaving(columns: u32, rows: u32, marks: &[u8], p: Packet, h: Heading) -> Head
     requires { ⌜ Sized columns rows (now marks) × (p .place .row .0 < 64) × (p .place .column .0 < 64) ⌝ }
     ensures { λ x. ⌜ x ≡ leaving (tripOf (mesh columns rows (now (marks .entry))) p) (p .place .row .0) (p .place .column .0) h ⌝ }
 {
-    let place = p.place;
-    let destination = p.destination;
     if is_stopped(columns, rows, marks, p) {
         return h;
     }
-    side(place.column, destination.column)
+    side(p.place.column, p.destination.column)
 }
 
 // Rule 2, in the destination's row: as rule 3, with the hop that a stop asks for.
-fn in_row(columns: u32, rows: u32, marks: &[u8], p: Packet) -> Heading
+pub fn in_row(columns: u32, rows: u32, marks: &[u8], p: Packet) -> Heading
     requires { ⌜ Sized columns rows (now marks) × (p .place .row .0 < 64) × (p .place .column .0 < 64) ⌝ }
     ensures { λ x. ⌜ x ≡ inRow (tripOf (mesh columns rows (now (marks .entry))) p) (p .place .row .0) (p .place .column .0) (p .last) ⌝ }
 {
@@ -114,14 +111,12 @@ fn across(columns: u32, rows: u32, marks: &[u8], p: Packet, s: Heading) -> Headi
     requires { ⌜ Sized columns rows (now marks) × (p .place .row .0 < 64) × (p .place .column .0 < 64) ⌝ }
     ensures { λ x. ⌜ x ≡ across (tripOf (mesh columns rows (now (marks .entry))) p) (p .place .row .0) (p .place .column .0) s ⌝ }
 {
-    let place = p.place;
-    let destination = p.destination;
-    let r = place.row;
-    let c = place.column;
+    let r = p.place.row;
+    let c = p.place.column;
     if !is_own(s, c) {
         return s;
     }
-    let h = toward(r, destination.row);
+    let h = toward(r, p.destination.row);
     if is_bad_ahead(columns, rows, marks, r, c, h, 1) {
         return s;
     }
@@ -133,10 +128,7 @@ fn nearing(columns: u32, rows: u32, marks: &[u8], p: Packet, h: Heading) -> Head
     requires { ⌜ Sized columns rows (now marks) × (p .place .row .0 < 64) × (p .place .column .0 < 64) ⌝ }
     ensures { λ x. ⌜ x ≡ nearing (tripOf (mesh columns rows (now (marks .entry))) p) (p .place .row .0) (p .place .column .0) h ⌝ }
 {
-    let place = p.place;
-    let r = place.row;
-    let c = place.column;
-    if is_bad_ahead(columns, rows, marks, r, c, h, 1) {
+    if is_bad_ahead(columns, rows, marks, p.place.row, p.place.column, h, 1) {
         return Heading::West;
     }
     h
@@ -147,9 +139,7 @@ fn along(columns: u32, rows: u32, marks: &[u8], p: Packet, h: Heading) -> Headin
     requires { ⌜ Sized columns rows (now marks) × (p .place .row .0 < 64) × (p .place .column .0 < 64) × (same h North || same h South ≡ true) ⌝ }
     ensures { λ x. ⌜ x ≡ otherRow (tripOf (mesh columns rows (now (marks .entry))) p) (p .place .row .0) (p .place .column .0) (Made h) ⌝ }
 {
-    let place = p.place;
-    let destination = p.destination;
-    if is_same(h, toward(place.row, destination.row)) {
+    if is_same(h, toward(p.place.row, p.destination.row)) {
         return nearing(columns, rows, marks, p, h);
     }
     leaving(columns, rows, marks, p, h)
@@ -160,16 +150,14 @@ fn after(columns: u32, rows: u32, marks: &[u8], p: Packet, h: Heading) -> Headin
     requires { ⌜ Sized columns rows (now marks) × (p .place .row .0 < 64) × (p .place .column .0 < 64) ⌝ }
     ensures { λ x. ⌜ x ≡ otherRow (tripOf (mesh columns rows (now (marks .entry))) p) (p .place .row .0) (p .place .column .0) (Made h) ⌝ }
 {
-    match h {
-        Heading::East => return across(columns, rows, marks, p, h),
-        Heading::North => return along(columns, rows, marks, p, h),
-        Heading::South => return along(columns, rows, marks, p, h),
-        Heading::West => return across(columns, rows, marks, p, h),
+    if is_vertical(h) {
+        return along(columns, rows, marks, p, h);
     }
+    across(columns, rows, marks, p, h)
 }
 
 // Rules 3 to 6, in another row than the destination's.
-fn other_row(columns: u32, rows: u32, marks: &[u8], p: Packet) -> Heading
+pub fn other_row(columns: u32, rows: u32, marks: &[u8], p: Packet) -> Heading
     requires { ⌜ Sized columns rows (now marks) × (p .place .row .0 < 64) × (p .place .column .0 < 64) ⌝ }
     ensures { λ x. ⌜ x ≡ otherRow (tripOf (mesh columns rows (now (marks .entry))) p) (p .place .row .0) (p .place .column .0) (p .last) ⌝ }
 {
@@ -185,11 +173,7 @@ pub fn hop(columns: u32, rows: u32, marks: &[u8], p: Packet) -> Heading
     requires { ⌜ Sized columns rows (now marks) × (p .place .row .0 < 64) × (p .place .column .0 < 64) ⌝ }
     ensures { λ x. ⌜ x ≡ hopAt (tripOf (mesh columns rows (now (marks .entry))) p) (at p) ⌝ }
 {
-    let place = p.place;
-    let destination = p.destination;
-    let r = place.row;
-    let to_r = destination.row;
-    if r.0 == to_r.0 {
+    if p.place.row.0 == p.destination.row.0 {
         return in_row(columns, rows, marks, p);
     }
     other_row(columns, rows, marks, p)
@@ -201,22 +185,14 @@ pub fn is_unserved(columns: u32, rows: u32, marks: &[u8], s: Place, d: Place) ->
     requires { ⌜ Sized columns rows (now marks) × (s .row .0 < 64) × (s .column .0 < 64) ⌝ }
     ensures { λ x. ⌜ x ≡ unserved (mesh columns rows (now (marks .entry))) s d ⌝ }
 {
-    let r = s.row;
-    let c = s.column;
-    let to_r = d.row;
-    let to_c = d.column;
-    let row = r.0;
-    let column = c.0;
-    let to_row = to_r.0;
-    let to_column = to_c.0;
-    if !is_own(Heading::East, c) {
+    if !is_own(Heading::East, s.column) {
         return false;
     }
-    if !is_bad_ahead(columns, rows, marks, r, c, Heading::West, 1) {
+    if !is_bad_ahead(columns, rows, marks, s.row, s.column, Heading::West, 1) {
         return false;
     }
-    if row != to_row {
+    if s.row.0 != d.row.0 {
         return true;
     }
-    to_column < column
+    d.column.0 < s.column.0
 }

@@ -25,7 +25,7 @@ pub fn is_same(g: Heading, h: Heading) -> bool
     letter(g) == letter(h)
 }
 
-fn is_vertical(h: Heading) -> bool
+pub fn is_vertical(h: Heading) -> bool
     ensures { λ x. ⌜ x ≡ same h North || same h South ⌝ }
 {
     if is_same(h, Heading::North) {

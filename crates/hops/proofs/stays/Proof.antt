@@ -12,7 +12,7 @@ add-result c = search needs
 
 returns : tie.Need-returns
 unfolding stays
-returns c = rw (c .enum-told .given .1)
+returns c = rw (c .before .enum-told .given .1)
 
 enum-told-2 : tie.Need-enum-told-2
 enum-told-2 c = search needs
@@ -22,21 +22,21 @@ add-result-2 c = search needs
 
 returns-2 : tie.Need-returns-2
 unfolding stays
-returns-2 c = rw (c .enum-told2 .given .1)
+returns-2 c = rw (c .before .enum-told2 .given .1)
 
 enum-told-3 : tie.Need-enum-told-3
 enum-told-3 c = search needs
 
 returns-3 : tie.Need-returns-3
 unfolding stays
-returns-3 c = rw (c .enum-told3 .given .1)
+returns-3 c = rw (c .before .enum-told3 .given .1)
 
 enum-told-4 : tie.Need-enum-told-4
 enum-told-4 c = search needs
 
 returns-4 : tie.Need-returns-4
 unfolding stays
-returns-4 c = rw (c .enum-told4 .given .1)
+returns-4 c = rw (c .before .enum-told4 .given .1)
 
 pub stays-spec : {M : Type 1} → statement M
 stays-spec =

@@ -14,13 +14,13 @@ nearing-requires : tie.Need-nearing-requires
 nearing-requires c κs = search needs
 
 returns : tie.Need-returns
-returns c = along-nearing _ _ _ _ (c .before .before .before .before .before .before .before .pre .3) (c .before .before .before .toward .ensures _ _) (c .before .before .is-same .ensures) (c .before .if1 .taken) (c .nearing .ensures)
+returns c = along-nearing _ _ _ _ (c .before .before .before .before .before .pre .3) (c .before .before .before .toward .ensures _ _) (c .before .before .is-same .ensures) (c .before .if1 .taken) (c .nearing .ensures)
 
 leaving-requires : tie.Need-leaving-requires
 leaving-requires c κs = search needs
 
 returns-2 : tie.Need-returns-2
-returns-2 c = along-leaving _ _ _ _ (c .before .before .before .before .before .before .before .pre .3) (c .before .before .before .toward .ensures _ _) (c .before .before .is-same .ensures) (c .before .if1 .left) (c .leaving .ensures)
+returns-2 c = along-leaving _ _ _ _ (c .before .before .before .before .before .pre .3) (c .before .before .before .toward .ensures _ _) (c .before .before .is-same .ensures) (c .before .if1 .left) (c .leaving .ensures)
 
 pub along-spec : {M : Type 1} → statement M
 along-spec =
