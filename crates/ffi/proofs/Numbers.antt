@@ -7,33 +7,17 @@ use native.Mathlib.Omega.{arith}
 use lib.Dec.{eqb, ltb}
 use lib.ListN.{length, set, getD}
 use borrow.Author.Tests.{eqb-true, ltb-true}
-use Rattle.mesh.specs.declared.Refusal.{Refusal}
-use Rattle.mesh.specs.declared.Refusal.the-variants.{Columns, Rows, MapLength, MapByte, FaultPlace, OffMesh, InBlock, OnRing, Unlawful, Room}
 use Rattle.mesh.specs.declared.Marked.{Marked}
 use Rattle.mesh.specs.declared.Routed.{Routed}
 use Rattle.mesh.specs.declared.Judged.{Judged}
 use Rattle.mesh.specs.declared.Moved.{Moved}
 use Rattle.mesh.specs.declared.Place.{Place}
 use Rattle.mesh.specs.declared.Packet.{Packet}
-use Rattle.mesh.specs.Refusals.{number}
 use Rattle.mesh.specs.Operations.{markedAnswer, MarksBlocks, routedAnswer, Routes}
 use Rattle.mesh.specs.Moving.{movedTold, MovesOn}
 use Rattle.mesh.specs.Judging.{judgedVerdict, judgement}
 use Rattle.mesh.proofs.Bools.{and-both}
 use Rattle.ffi.specs.Codes.{answerCode, MarksInNumbers, RoutesInNumbers, verdictCode, verdictIndex, putFirst, JudgesInNumbers, toldCode, headingNumber, lastOf, lastNumber, isRecord, packetOf, numbersOf, MovesInNumbers}
-
-pub number-few : (why : Refusal) → number why ≤ 10
-unfolding number
-number-few Columns = omega arith
-number-few Rows = omega arith
-number-few MapLength = omega arith
-number-few MapByte = omega arith
-number-few FaultPlace = omega arith
-number-few OffMesh = omega arith
-number-few InBlock = omega arith
-number-few OnRing = omega arith
-number-few Unlawful = omega arith
-number-few Room = omega arith
 
 pub marks : {columns rows x : ℕ} {map out after : List ℕ} {r : Marked} → MarksBlocks columns rows map out r after → x ≡ answerCode (markedAnswer r) → MarksInNumbers columns rows map out x after
 marks m e = record { answers = e ∙ ap answerCode (m .answers); writes = m .writes }

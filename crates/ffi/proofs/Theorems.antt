@@ -1,7 +1,7 @@
 -- What is returned is below 65,536, so that no answer can be taken for a refusal. Assumes nothing.
-use mathlib.Core.Path.{_≡_, refl, sym, _∙_}
+use mathlib.Core.Path.{_≡_, sym, _∙_}
 use mathlib.Core.Logic.{inl, inr}
-use mathlib.Core.Bool.{Bool, true, false, cond, _||_}
+use mathlib.Core.Bool.{Bool}
 use mathlib.Core.List.{List}
 use Prim.Native.Nat.{ℕ, zero, suc, _*_, _≤_, _<_}
 use native.Mathlib.Omega.{arith}
@@ -9,16 +9,16 @@ use lib.ListN.{length}
 use Rattle.mesh.specs.declared.Place.{Place}
 use Rattle.mesh.specs.Mesh.{Mesh, mesh}
 use Rattle.mesh.specs.Blocks.{marked, blocks, select}
-use Rattle.mesh.specs.Refusals.{mapRefusals, placeRefusals, offMesh, inBlock, onARing, unserved}
+use Rattle.mesh.specs.Refusals.{mapRefusals}
 use Rattle.mesh.specs.Operations.{markRefusal, routeRefusal, hopsOf}
 use Rattle.mesh.proofs.Bools.{value}
 use Rattle.mesh.proofs.Index.{few-nodes}
-use Rattle.mesh.proofs.Refusals.{refused-first, others-next, accepted}
+use Rattle.mesh.proofs.Refusals.{none-before, refused-first, others-next, accepted}
 use Rattle.block_theory.proofs.Marking.{marked-length}
 use Rattle.block_theory.proofs.Theorems.{obstacles}
 use Rattle.maps.specs.Sized.{Sized}
 use Rattle.route.specs.Marked.{requestRefusals}
-use Rattle.route.proofs.Requests.{request}
+use Rattle.route.proofs.Requests.{request-clear, request}
 use Rattle.route.proofs.Routed.{rest-hops, starts}
 
 select-few : {A : Type 0} (t : ℕ → Bool) (f : ℕ → A) (n i : ℕ) → length (select t f n i) ≤ n
@@ -34,26 +34,9 @@ blocks-within : (w : Mesh) → length (blocks w) ≤ w .columns * w .rows
 unfolding blocks
 blocks-within w = select-few _ _ (w .columns * w .rows) 0
 
--- what follows the four tests counts only where none of them holds
-first-none : (a b r u : Bool) (n : ℕ) → cond a 6 (cond b 7 (cond r 8 (cond u 9 n))) ≡ 0 → _≡_ {A = ℕ} (cond a 6 (cond b 7 (cond r 8 (cond u 9 0)))) 0
-first-none true b r u n h = h
-first-none false true r u n h = h
-first-none false false true u n h = h
-first-none false false false true n h = h
-first-none false false false false n h = refl
-
-request-clear : (w : Mesh) (s d : Place) (n : ℕ) → requestRefusals w s d n ≡ 0 → requestRefusals w s d 0 ≡ 0
-unfolding requestRefusals placeRefusals
-request-clear w s d n h =
-    first-none (offMesh w s || offMesh w d) (inBlock w s || inBlock w d) (onARing w d) (unserved w s d) n h
-
 module _ (columns rows : ℕ) (map : List ℕ) where
-  clear-by : (k others : ℕ) → mapRefusals columns rows map 0 ≡ k → mapRefusals columns rows map others ≡ 0 → mapRefusals columns rows map 0 ≡ 0
-  clear-by zero others e h = e
-  clear-by (suc k) others e h = absurd (omega (arith, h, refused-first columns rows map others e))
-
   map-clear : (others : ℕ) → mapRefusals columns rows map others ≡ 0 → mapRefusals columns rows map 0 ≡ 0
-  map-clear others h = clear-by (mapRefusals columns rows map 0) others refl h
+  map-clear others h = none-before _ _ (λ k e. refused-first columns rows map others e) h
 
   pub blocks-few : (out : List ℕ) → markRefusal columns rows map out ≡ 0 → length (blocks (marked (mesh columns rows map))) < 65536
   unfolding markRefusal

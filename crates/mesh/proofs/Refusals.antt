@@ -2,7 +2,7 @@
 use mathlib.Core.Path.{_≡_, refl, sym, _∙_}
 use mathlib.Core.Bool.{Bool, true, false, cond, _&&_}
 use mathlib.Core.List.{List}
-use Prim.Native.Nat.{ℕ, suc, _+_, _*_, _/_, _%_, _≤_, _<_, pred}
+use Prim.Native.Nat.{ℕ, zero, suc, _+_, _*_, _/_, _%_, _≤_, _<_, pred}
 use native.Mathlib.Nat.{zero-add}
 use native.Mathlib.Omega.{arith}
 use borrow.Author.Tests.{eqb-true, eqb-false, ltb-true, ltb-false, not-false}
@@ -35,6 +35,19 @@ number-some OnRing = refl
 number-some Unlawful = refl
 number-some Room = refl
 
+pub number-few : (why : Refusal) → number why ≤ 10
+unfolding number
+number-few Columns = omega arith
+number-few Rows = omega arith
+number-few MapLength = omega arith
+number-few MapByte = omega arith
+number-few FaultPlace = omega arith
+number-few OffMesh = omega arith
+number-few InBlock = omega arith
+number-few OnRing = omega arith
+number-few Unlawful = omega arith
+number-few Room = omega arith
+
 pub fault-some : (f : Fault) → faultNumber f ≡ suc (pred (faultNumber f))
 unfolding faultNumber
 fault-some NoLetter = refl
@@ -43,6 +56,11 @@ fault-some Reverses = refl
 fault-some ForbiddenTurn = refl
 fault-some EntersBlock = refl
 fault-some NotArrived = refl
+
+-- where none applies of all refusals, none applies of the first
+pub none-before : (first all : ℕ) → ((k : ℕ) → first ≡ suc k → all ≡ suc k) → all ≡ 0 → first ≡ 0
+none-before zero all h e = refl
+none-before (suc k) all h e = absurd (omega (arith, h k refl))
 
 -- a mesh and a map that refusals 1 to 5 let pass
 pub record Accepted (columns rows : ℕ) (map : List ℕ) : Type 0 where

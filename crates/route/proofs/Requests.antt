@@ -11,7 +11,7 @@ use Rattle.mesh.specs.declared.Place.{Place}
 use Rattle.mesh.specs.Mesh.{Mesh}
 use Rattle.mesh.specs.Refusals.{number, checkedNumber, offMesh, inBlock, placeRefusals, onARing, unserved}
 use Rattle.mesh.proofs.Bools.{or-none}
-use Rattle.mesh.proofs.Refusals.{number-some}
+use Rattle.mesh.proofs.Refusals.{number-some, none-before}
 use Rattle.places.proofs.Placed.{places-none, places-next, places-refused}
 use Rattle.route.specs.Marked.{requestRefusals}
 
@@ -74,6 +74,14 @@ module _ (w : Mesh) (s d : Place) where
       let told : number why ≡ requestRefusals w s d 0 = ap checkedNumber (sym e) ∙ h in
       first-some (offMesh w s || offMesh w d) (inBlock w s || inBlock w d) (onARing w d) (unserved w s d) _ others (sym told ∙ number-some why) ∙
       sym (number-some why)
+
+  -- what follows refusals 6 to 9 counts only where none of them applies
+  pub request-clear : (others : ℕ) → requestRefusals w s d others ≡ 0 → requestRefusals w s d 0 ≡ 0
+  unfolding requestRefusals placeRefusals first
+  request-clear others h =
+      none-before _ _
+      (λ k e. first-some (offMesh w s || offMesh w d) (inBlock w s || inBlock w d) (onARing w d) (unserved w s d) k others e)
+      h
 
   pub request-none : {x : Checked} → x ≡ Clear → checkedNumber x ≡ requestRefusals w s d 0 → requestRefusals w s d 0 ≡ 0
   unfolding checkedNumber

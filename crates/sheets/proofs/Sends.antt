@@ -11,7 +11,6 @@ use lib.ListN.{length, take, drop, length-append, length-drop}
 use lib.Seq.{take-at, length-take-le}
 use Rattle.mesh.specs.declared.Place.{Place}
 use Rattle.mesh.specs.declared.Refusal.{Refusal}
-use Rattle.mesh.specs.declared.Refusal.the-variants.{Columns, Rows, MapLength, MapByte, FaultPlace, OffMesh, InBlock, OnRing, Unlawful, Room}
 use Rattle.mesh.specs.declared.Routed.{Routed}
 use Rattle.mesh.specs.declared.Routed.the-variants.{Hops, Refused}
 use Rattle.mesh.specs.Mesh.{Mesh, mesh, letters}
@@ -42,19 +41,6 @@ use Rattle.sheets.specs.Sheet.{State, markedOf, answerOf, sendAnswer, bl
 use Rattle.sheets.specs.Keeping.{mapOf, stateOf, MapReady, Marked, Ready, markedMesh, Sendable, Opens, Answers}
 
 -- A send's answer.
-
-pub number-few : (why : Refusal) → number why ≤ 10
-unfolding number
-number-few Columns = omega arith
-number-few Rows = omega arith
-number-few MapLength = omega arith
-number-few MapByte = omega arith
-number-few FaultPlace = omega arith
-number-few OffMesh = omega arith
-number-few InBlock = omega arith
-number-few OnRing = omega arith
-number-few Unlawful = omega arith
-number-few Room = omega arith
 
 -- the four tests in a row
 first : Bool → Bool → Bool → Bool → ℕ → ℕ
