@@ -9,6 +9,7 @@ ghost use Rattle.mesh.specs.Moving.{movedTold};
 ghost use Rattle.mesh.specs.Judging.{faultNumber, judgedVerdict};
 ghost use Rattle.ffi.specs.Codes.{answerCode, MarksInNumbers, RoutesInNumbers, JudgesInNumbers, verdictCode, verdictIndex, putFirst, toldCode, lastOf, headingNumber, lastNumber, isRecord, packetOf, numbersOf, MovesInNumbers};
 use judge::judge;
+use maps::refusal_number;
 use marking::mark_blocks;
 use mesh::Column;
 use mesh::Fault;
@@ -25,23 +26,6 @@ use mesh::Row;
 use move_on::moved_on;
 use route::route;
 use turns::letter;
-
-fn refusal_number(why: Refusal) -> u32
-    ensures { λ x. ⌜ x ≡ number why ⌝ }
-{
-    match why {
-        Refusal::Columns => return 1,
-        Refusal::Rows => return 2,
-        Refusal::MapLength => return 3,
-        Refusal::MapByte => return 4,
-        Refusal::FaultPlace => return 5,
-        Refusal::OffMesh => return 6,
-        Refusal::InBlock => return 7,
-        Refusal::OnRing => return 8,
-        Refusal::Unlawful => return 9,
-        Refusal::Room => return 10,
-    }
-}
 
 fn fault_number(fault: Fault) -> u32
     ensures { λ x. ⌜ x ≡ faultNumber fault ⌝ }

@@ -3,13 +3,31 @@ ghost use mathlib.Core.Path.{_≡_};
 ghost use Prim.Native.Nat.{_*_, _≤_, _<_};
 ghost use Rattle.mesh.specs.Mesh.{mesh};
 ghost use Rattle.mesh.specs.Blocks.{bad, ahead, allowed};
-ghost use Rattle.mesh.specs.Refusals.{badSize, badLength, badByte, misplacedAt, misplaced, mapRefusals, checkedNumber};
+ghost use Rattle.mesh.specs.Refusals.{badSize, badLength, badByte, misplacedAt, misplaced, mapRefusals, number, checkedNumber};
 ghost use Rattle.maps.specs.Sized.{Sized};
 use mesh::Checked;
 use mesh::Column;
 use mesh::Heading;
 use mesh::Refusal;
 use mesh::Row;
+
+// The number of a refusal.
+pub fn refusal_number(why: Refusal) -> u32
+    ensures { λ x. ⌜ x ≡ number why ⌝ }
+{
+    match why {
+        Refusal::Columns => return 1,
+        Refusal::Rows => return 2,
+        Refusal::MapLength => return 3,
+        Refusal::MapByte => return 4,
+        Refusal::FaultPlace => return 5,
+        Refusal::OffMesh => return 6,
+        Refusal::InBlock => return 7,
+        Refusal::OnRing => return 8,
+        Refusal::Unlawful => return 9,
+        Refusal::Room => return 10,
+    }
+}
 
 // Refusals 1 and 2.
 pub fn is_bad_size(n: u32) -> bool

@@ -7,7 +7,6 @@ ghost use mathlib.Core.List.{List};
 ghost use lib.ListN.{length};
 ghost use Rattle.mesh.specs.Mesh.{mesh};
 ghost use Rattle.mesh.specs.Blocks.{bad, blocks};
-ghost use Rattle.mesh.specs.Refusals.{number};
 ghost use Rattle.block_theory.specs.Obstacles.{Obstacles};
 ghost use Rattle.maps.specs.Sized.{Sized};
 ghost use Rattle.buffers.specs.Over.{Puts};
@@ -17,10 +16,10 @@ ghost use Rattle.sheets.specs.declared.Phase.the-variants.{Start, Faults
 ghost use Rattle.sheets.specs.Keeping.{stateOf, MapReady, Ready, markedMesh, Sendable, Opens, ended, Answers, StepsMap, Cleared, readerOf, Reading, Feeds, FeedsSome, Finishing, Begins};
 use maps::has_misplaced;
 use maps::is_bad_size;
+use maps::refusal_number;
 use marking::count_blocks;
 use marking::mark;
 use mesh::Place;
-use mesh::Refusal;
 use mesh::Routed;
 use prints::put_bad_line;
 use prints::put_blocks;
@@ -64,23 +63,6 @@ pub struct Fed {
     pub reader: Reader,
     pub at: usize,
     pub taken: usize,
-}
-
-fn refusal_number(why: Refusal) -> u32
-    ensures { λ x. ⌜ x ≡ number why ⌝ }
-{
-    match why {
-        Refusal::Columns => return 1,
-        Refusal::Rows => return 2,
-        Refusal::MapLength => return 3,
-        Refusal::MapByte => return 4,
-        Refusal::FaultPlace => return 5,
-        Refusal::OffMesh => return 6,
-        Refusal::InBlock => return 7,
-        Refusal::OnRing => return 8,
-        Refusal::Unlawful => return 9,
-        Refusal::Room => return 10,
-    }
 }
 
 // ok HOPS LETTERS, or no NUMBER. There is room for every route.

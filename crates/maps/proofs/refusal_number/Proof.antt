@@ -1,8 +1,8 @@
 -- The number of a refusal. Assumes nothing.
 use borrow.Author.Needs.{needs}
 use Rattle.mesh.specs.Refusals.{number}
-use Rattle.sheets.proofs.refusal_number.Statement.{statement}
-use Rattle.sheets.proofs.refusal_number.Tie as tie
+use Rattle.maps.proofs.refusal_number.Statement.{statement}
+use Rattle.maps.proofs.refusal_number.Tie as tie
 
 enum-told : tie.Need-enum-told
 enum-told c = search needs
