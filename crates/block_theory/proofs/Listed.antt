@@ -7,6 +7,7 @@ use Prim.Native.Nat.{ℕ, zero, suc, _+_, _*_, _/_, _%_, _≤_, _<_}
 use native.Mathlib.Decide.{decLt}
 use native.Mathlib.Omega.{arith}
 use borrow.Author.Tests.{not-true}
+use lib.ListN.{length}
 use Rattle.mesh.specs.Mesh.{Mesh}
 use Rattle.mesh.specs.Blocks.{bad, ahead, Block, corner, blockAt, select, blocks}
 use Rattle.mesh.proofs.Bools.{value, and-both, or-none}
@@ -68,6 +69,13 @@ module _ {A : Type 0} (t : ℕ → Bool) (f : ℕ → A) where
         | inr e ↦ rw e (selected-pairs R r n (suc i))
       ]
 
+  select-few : (n i : ℕ) → length (select t f n i) ≤ n
+  unfolding select
+  select-few zero i = omega arith
+  select-few (suc n) i =
+      let few = select-few n (suc i) in
+      elim (value (t i)) [ inl e ↦ rw e (omega arith) | inr e ↦ rw e (omega arith) ]
+
 module _ (B : ℕ → ℕ → Bool) (r c : ℕ) where
   corner-told : corner B r c ≡ true → Corner B r c
   unfolding corner ahead
@@ -79,6 +87,11 @@ module _ (B : ℕ → ℕ → Bool) (r c : ℕ) where
   corner-true : Corner B r c → corner B r c ≡ true
   unfolding corner ahead
   corner-true k = rw (k .is-bad, begins-before (B r) c (k .west), begins-before (column B c) r (k .south))
+
+-- no more blocks than nodes
+pub blocks-within : (w : Mesh) → length (blocks w) ≤ w .columns * w .rows
+unfolding blocks
+blocks-within w = select-few _ _ (w .columns * w .rows) 0
 
 module _ (w : Mesh) (closed : Closed (w .columns) (w .rows) (bad w)) where
   at-rest : Settled (w .columns) (w .rows) (bad w)

@@ -1,38 +1,23 @@
 -- What is returned is below 65,536, so that no answer can be taken for a refusal. Assumes nothing.
 use mathlib.Core.Path.{_≡_, sym, _∙_}
-use mathlib.Core.Logic.{inl, inr}
-use mathlib.Core.Bool.{Bool}
 use mathlib.Core.List.{List}
-use Prim.Native.Nat.{ℕ, zero, suc, _*_, _≤_, _<_}
+use Prim.Native.Nat.{ℕ, _<_}
 use native.Mathlib.Omega.{arith}
 use lib.ListN.{length}
 use Rattle.mesh.specs.declared.Place.{Place}
-use Rattle.mesh.specs.Mesh.{Mesh, mesh}
-use Rattle.mesh.specs.Blocks.{marked, blocks, select}
+use Rattle.mesh.specs.Mesh.{mesh}
+use Rattle.mesh.specs.Blocks.{marked, blocks}
 use Rattle.mesh.specs.Refusals.{mapRefusals}
 use Rattle.mesh.specs.Operations.{markRefusal, routeRefusal, hopsOf}
-use Rattle.mesh.proofs.Bools.{value}
 use Rattle.mesh.proofs.Index.{few-nodes}
 use Rattle.mesh.proofs.Refusals.{none-before, refused-first, others-next, accepted}
 use Rattle.block_theory.proofs.Marking.{marked-length}
+use Rattle.block_theory.proofs.Listed.{blocks-within}
 use Rattle.block_theory.proofs.Theorems.{obstacles}
 use Rattle.maps.specs.Sized.{Sized}
 use Rattle.route.specs.Marked.{requestRefusals}
 use Rattle.route.proofs.Requests.{request-clear, request}
 use Rattle.route.proofs.Routed.{rest-hops, starts}
-
-select-few : {A : Type 0} (t : ℕ → Bool) (f : ℕ → A) (n i : ℕ) → length (select t f n i) ≤ n
-unfolding select
-select-few t f zero i = omega arith
-select-few t f (suc n) i =
-    elim (value (t i)) [
-      | inl e ↦ rw e (omega (arith, select-few t f n (suc i)))
-      | inr e ↦ rw e (omega (arith, select-few t f n (suc i)))
-    ]
-
-blocks-within : (w : Mesh) → length (blocks w) ≤ w .columns * w .rows
-unfolding blocks
-blocks-within w = select-few _ _ (w .columns * w .rows) 0
 
 module _ (columns rows : ℕ) (map : List ℕ) where
   map-clear : (others : ℕ) → mapRefusals columns rows map others ≡ 0 → mapRefusals columns rows map 0 ≡ 0

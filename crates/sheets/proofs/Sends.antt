@@ -1,6 +1,5 @@
 -- The cases of a send: its answer, the marking made for the first one, and the line as a whole. Assumes nothing.
 use mathlib.Core.Path.{_≡_, refl, sym, ap, _∙_}
-use mathlib.Core.Logic.{inl, inr}
 use mathlib.Core.Bool.{Bool, true, false, cond, _||_}
 use mathlib.Core.List.{List, _++_}
 use Prim.Native.Nat.{ℕ, zero, suc, _+_, _*_, _≤_, _<_}
@@ -13,16 +12,17 @@ use Rattle.mesh.specs.declared.Place.{Place}
 use Rattle.mesh.specs.declared.Refusal.{Refusal}
 use Rattle.mesh.specs.declared.Routed.{Routed}
 use Rattle.mesh.specs.declared.Routed.the-variants.{Hops, Refused}
-use Rattle.mesh.specs.Mesh.{Mesh, mesh, letters}
-use Rattle.mesh.specs.Blocks.{bad, marked, blocks, select}
+use Rattle.mesh.specs.Mesh.{mesh, letters}
+use Rattle.mesh.specs.Blocks.{bad, marked, blocks}
 use Rattle.mesh.specs.Refusals.{number, offMesh, inBlock, onARing, unserved, misplaced, mapRefusals, placeRefusals}
 use Rattle.mesh.specs.Operations.{refused, returned, answer, routedAnswer, written, hopsOf}
-use Rattle.mesh.proofs.Bools.{value, true-false}
+use Rattle.mesh.proofs.Bools.{true-false}
 use Rattle.mesh.proofs.Index.{few-nodes}
 use Rattle.mesh.proofs.Lists.{letters-length}
 use Rattle.mesh.proofs.Refusals.{number-some, accepted}
 use Rattle.block_theory.specs.Obstacles.{Obstacles}
 use Rattle.block_theory.proofs.Marking.{marked-length}
+use Rattle.block_theory.proofs.Listed.{blocks-within}
 use Rattle.block_theory.proofs.Theorems.{obstacles}
 use Rattle.maps.specs.Sized.{Sized}
 use Rattle.maps.proofs.Lookup.{sized}
@@ -149,22 +149,9 @@ sends-on e f = let z : _≡_ {A = ℕ} 0 1 = cc in omega (arith, z)
 
 -- The marking.
 
-select-few : {A : Type 0} (t : ℕ → Bool) (f : ℕ → A) (n i : ℕ) → length (select t f n i) ≤ n
-unfolding select
-select-few t f zero i = omega arith
-select-few t f (suc n) i =
-    elim (value (t i)) [
-      | inl e ↦ rw e (omega (arith, select-few t f n (suc i)))
-      | inr e ↦ rw e (omega (arith, select-few t f n (suc i)))
-    ]
-
-blocks-few : (w : Mesh) → length (blocks w) ≤ w .columns * w .rows
-unfolding blocks
-blocks-few w = select-few _ _ (w .columns * w .rows) 0
-
 pub count-few : (s : Sheet) {map : List ℕ} → MapReady s map → (s .phase ≡ Start → ⊥) → (marks : List ℕ) {k : ℕ} → k ≡ length (blocks (mesh (s .columns) (s .rows) marks)) → k < 100000
 count-few s m on marks e =
-    omega (arith, e, blocks-few (mesh (s .columns) (s .rows) marks), ready-few s m on)
+    omega (arith, e, blocks-within (mesh (s .columns) (s .rows) marks), ready-few s m on)
 
 module _ (s : Sheet) {map marks : List ℕ} (m : Marked s map marks) where
   same-mesh : markedMesh s marks ≡ markedOf (stateOf s map)
