@@ -8,7 +8,7 @@ use native.Mathlib.Omega.{arith}
 use borrow.Author.Tests.{leb-true, ltb-true, le-leb, lt-ltb, not-true}
 use Rattle.mesh.specs.Blocks.{Block, reaches, onRing, onSomeRing}
 use Rattle.mesh.proofs.Bools.{true-false, value, and-both, or-cases}
-use Rattle.block_theory.specs.Blocks.{Reaches, OnRing}
+use Rattle.block_theory.specs.Blocks.{Reaches, Within, OnRing}
 use Rattle.block_theory.specs.Obstacles.{Listed}
 
 module _ (i j : ℕ) (b : Block) (r c : ℕ) where
@@ -71,3 +71,11 @@ module _ (r c : ℕ) where
 
   pub onSomeRing-none : {bs : List Block} → onSomeRing bs r c ≡ false → (b : Block) → Listed b bs → OnRing b r c → ⊥
   onSomeRing-none {bs} e b m o = true-false (onSomeRing-true bs b m o) e
+
+  -- near a listed block and on no ring is in the block
+  pub off-rings-within : {bs : List Block} → onSomeRing bs r c ≡ false → (b : Block) → Listed b bs → Reaches 1 2 b r c → Within b r c
+  off-rings-within e b m n =
+      elim (value (reaches 0 0 b r c)) [
+        | inl t ↦ reaches-told 0 0 b r c t
+        | inr f ↦ absurd (onSomeRing-none e b m (record { near = n; outside = reaches-not 0 0 b r c f }))
+      ]

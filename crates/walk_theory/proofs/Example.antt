@@ -1,29 +1,20 @@
 -- The premises can be met: one block anywhere on a mesh with room for its ring, and a walk past it with the turns of either parity. Assumes nothing.
 use mathlib.Core.Path.{_≡_, refl, sym, subst}
-use mathlib.Core.Bool.{Bool, true, false, not, and-false}
+use mathlib.Core.Bool.{Bool, not, and-false}
 use mathlib.Core.List.{[], _∷_, List·Memᴰ·head, List·Memᴰ·tail, List·Memᴰ·not-nil}
-use mathlib.Core.Logic.{_⊎_, inl, inr}
 use Prim.Native.Nat.{ℕ, _+_, _<_}
 use native.Mathlib.Omega.{arith}
 use Rattle.mesh.specs.Blocks.{Block, reaches, ahead}
 use Rattle.mesh.specs.Hops.{Trip, blocked}
 use Rattle.mesh.specs.Walk.{fresh, walk, shutIn, distance, detours, bound}
-use Rattle.mesh.proofs.Bools.{value}
-use Rattle.block_theory.specs.Blocks.{Within, Fits}
+use Rattle.block_theory.specs.Blocks.{Fits}
 use Rattle.block_theory.specs.Obstacles.{Listed, Walled, none, more, Obstacles}
+use Rattle.block_theory.proofs.Rings.{reaches-told, reaches-true, reaches-false}
 use Rattle.walk_theory.specs.Course.{Course, meetsEdge}
 use Rattle.walk_theory.specs.Claims.{Arrives}
-use Rattle.walk_theory.proofs.Rings.{reaches-true, reaches-of}
 use Rattle.walk_theory.proofs.Theorems.{walk-arrives}
 
 module _ (b : Block) where
-  free-outside : (r c : ℕ) → (Within b r c → ⊥) → reaches 0 0 b r c ≡ false
-  free-outside r c out = known (value (reaches 0 0 b r c))
-    where
-      known : (reaches 0 0 b r c ≡ true) ⊎ (reaches 0 0 b r c ≡ false) → reaches 0 0 b r c ≡ false
-      known (inl t) = absurd (out (reaches-of b r c 0 0 t))
-      known (inr f) = f
-
   only : (a : Block) → Listed a (b ∷ []) → b ≡ a
   only a (List·Memᴰ·head e) = sym e
   only a (List·Memᴰ·tail m) = absurd (List·Memᴰ·not-nil m)
@@ -34,10 +25,10 @@ module _ (columns rows : ℕ) (b : Block) (tall : 0 < b .height) (wide : 0 < b .
     walled = λ a m. subst (Walled (reaches 0 0 b)) (only b a m) (record {
       tall = tall;
       wide = wide;
-      inside = λ r c i. reaches-true b r c 0 0 i;
-      ring = λ r c o. free-outside b r c (o .outside);
+      inside = λ r c i. reaches-true 0 0 b r c i;
+      ring = λ r c o. reaches-false 0 0 b r c (o .outside);
     });
-    in-block = λ r c e. record { block = b; listed = List·Memᴰ·head refl; within = reaches-of b r c 0 0 e };
+    in-block = λ r c e. record { block = b; listed = List·Memᴰ·head refl; within = reaches-told 0 0 b r c e };
     apart = more (λ a m. absurd (List·Memᴰ·not-nil m)) none;
     fits = λ a m. subst (Fits columns rows) (only b a m) fits;
   }
@@ -58,7 +49,7 @@ module _ (west : ℕ → Bool) (changes : (c : ℕ) → west (c + 1) ≡ not (we
     changes = changes;
     row = omega arith;
     column = omega arith;
-    clear = λ c h k. free-outside square 6 c (λ i. omega arith);
+    clear = λ c h k. reaches-false 0 0 square 6 c (λ i. omega arith);
   }
 
   -- from (1, 5)

@@ -14,6 +14,5 @@ pub mod Walks
 pub mod Source
 pub mod Arrival
 pub mod ShutIn
-pub mod Rings
 pub mod Theorems
 pub mod Example

@@ -21,9 +21,9 @@ use Rattle.mesh.specs.Operations.{hopsOf}
 use Rattle.mesh.proofs.Bools.{true-false, value, and-both, or-cases}
 use Rattle.mesh.proofs.Turns.{turns-change}
 use Rattle.block_theory.specs.Obstacles.{Obstacles}
+use Rattle.block_theory.proofs.Rings.{off-rings-within}
 use Rattle.walk_theory.specs.Course.{Course, FreePlace, meetsEdge, Served}
 use Rattle.walk_theory.specs.Claims.{Arrives, Fails, reached, OnTheWay}
-use Rattle.walk_theory.proofs.Rings.{off-ring-within, off-each-ring}
 use Rattle.walk_theory.proofs.Walks.{walks-agree, fails-unlawful, on-the-way-from}
 use Rattle.walk_theory.proofs.Source.{start}
 use Rattle.walk_theory.proofs.Arrival.{mode-arrives}
@@ -87,13 +87,13 @@ module _ (w : Trip) (r c : ℕ) where
 -- a destination in no block and on no ring has no bad node in its row within two columns
 pub off-rings-served : {columns rows : ℕ} {B : ℕ → ℕ → Bool} {bs : List Block} → Obstacles columns rows B bs → (R C : ℕ) →
     B R C ≡ false → onSomeRing bs R C ≡ false → (c : ℕ) → C ≤ c + 2 → c ≤ C + 2 → B R c ≡ false
-off-rings-served {B = B} {bs = bs} o R C free off c h k = known (value (B R c))
+off-rings-served {B = B} o R C free off c h k = known (value (B R c))
   where
     known : (B R c ≡ true) ⊎ (B R c ≡ false) → B R c ≡ false
     known (inr f) = f
     known (inl t) =
         let g = o .in-block R c t in
-        let i = off-ring-within (g .block) R C (off-each-ring bs R C off (g .listed)) (let within = g .within in omega arith) in
+        let i = off-rings-within R C off (g .block) (g .listed) (let within = g .within in omega arith) in
         true-false (o .walled (g .block) (g .listed) .inside R C i) free
 
 -- with the turns of document 01, on a marked mesh
