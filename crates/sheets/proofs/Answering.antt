@@ -14,8 +14,8 @@ use Rattle.sheets.specs.declared.Sheet.{Sheet}
 use Rattle.sheets.specs.declared.Answered.{Answered}
 use Rattle.sheets.specs.Sheet.{Step, badLine, meshLine, faultLine, sendLine, commandStep, lineStep}
 use Rattle.sheets.specs.Keeping.{stateOf, ended, StepsMap, Answers}
+use Rattle.sheets.proofs.Phases.{sends-faults}
 use Rattle.sheets.proofs.Faults.{Ends}
-use Rattle.sheets.proofs.Ends.{faults-sends}
 
 steps-answers : {t : Step} {out : List ℕ} {at : ℕ} {x : Answered} {map marks after : List ℕ} → 4096 ≤ length marks → StepsMap t out at x map after → Answers t out at x map marks after
 steps-answers room s =
@@ -23,7 +23,7 @@ steps-answers room s =
       puts = s .puts;
       ends = s .ends;
       next = s .next;
-      ready = λ e. record { on-map = s .ready; room = room; sends = λ f. faults-sends (s .faults e) f };
+      ready = λ e. record { on-map = s .ready; room = room; sends = λ f. sends-faults f (s .faults e) };
     }
 
 module _ (n : ℕ) (s : Sheet) (text map : List ℕ) {out : List ℕ} {at : ℕ} {x : Answered} {marks after : List ℕ} where

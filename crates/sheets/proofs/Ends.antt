@@ -1,11 +1,10 @@
 -- The end of a sheet, case by case. Assumes nothing.
-use mathlib.Core.Path.{_≡_, refl, sym, ap, _∙_}
+use mathlib.Core.Path.{_≡_, refl, ap, _∙_}
 use mathlib.Core.Bool.{true, false, cond}
 use mathlib.Core.List.{List, [], _∷_}
 use Prim.Native.Nat.{ℕ, zero, suc, _≤_, _<_}
 use native.Mathlib.Omega.{arith}
 use lib.ListN.{length, take}
-use Rattle.sheets.specs.declared.Phase.{Phase}
 use Rattle.sheets.specs.declared.Phase.the-variants.{Start, Faults, Sends}
 use Rattle.sheets.specs.declared.Answered.{Answered}
 use Rattle.sheets.specs.declared.Reader.{Reader as Held}
@@ -63,17 +62,3 @@ module _ (r : Held) (map hold : List ℕ) where
       pub finish-sends : at ≤ length out → r .sheet .phase ≡ Sends → Puts out at (finish (readerOf r hold map)) at out
       unfolding atEnd
       finish-sends h e = rw (none-end on none, e) (puts-nothing out at h)
-
--- the phases differ
-place : Phase → ℕ
-place Start = 0
-place Faults = 1
-place Sends = 2
-
-pub start-sends : {A : Type 0} {p : Phase} → p ≡ Start → p ≡ Sends → A
-unfolding place
-start-sends e f = let z : _≡_ {A = ℕ} 0 2 = sym (ap place e) ∙ ap place f in absurd (omega arith)
-
-pub faults-sends : {A : Type 0} {p : Phase} → p ≡ Faults → p ≡ Sends → A
-unfolding place
-faults-sends e f = let z : _≡_ {A = ℕ} 1 2 = sym (ap place e) ∙ ap place f in absurd (omega arith)

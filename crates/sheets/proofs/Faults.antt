@@ -5,7 +5,6 @@ use mathlib.Core.Bool.{Bool, true, false}
 use mathlib.Core.List.{List, [], _∷_, _++_}
 use Prim.Native.Nat.{ℕ, zero, suc, _+_, _*_, _≤_, _<_}
 use native.Mathlib.Numerals.{add-one}
-use native.Mathlib.Omega.{arith}
 use borrow.Author.Tests.{lt-ltb, le-ltb, eq-eqb}
 use lib.Dec.{ltb}
 use lib.ListN.{length, set, replicate, length-set, length-replicate}
@@ -25,6 +24,7 @@ use Rattle.sheets.specs.declared.Sheet.{Sheet}
 use Rattle.sheets.specs.declared.Answered.{Answered}
 use Rattle.sheets.specs.Sheet.{State, ending, meshLine, faultLine}
 use Rattle.sheets.specs.Keeping.{stateOf, NoFour, MapReady, Cleared, StepsMap}
+use Rattle.sheets.proofs.Phases.{faults-begun}
 
 -- clearing a map
 
@@ -37,10 +37,6 @@ one-more (suc n) x = ap (λ (r : List ℕ). x ∷ r) (one-more n x)
 
 pub cleared-more : {i : ℕ} {map : List ℕ} → Cleared i map → i < length map → Cleared (i + 1) (set map i 0)
 cleared-more {i} {map} p h = record { zeros = rw (add-one, take-suc-set map i 0 h, p .zeros) (one-more i 0) }
-
--- nothing printed
-pub faults-begun : {p : Phase} → p ≡ Faults → p ≡ Start → ⊥
-faults-begun e f = let z : _≡_ {A = ℕ} 0 1 = cc in omega arith
 
 -- numbers that are at most 1
 

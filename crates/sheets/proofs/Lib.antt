@@ -1,5 +1,6 @@
 pub mod Lines
 pub mod Theorems
+pub mod Phases
 pub mod Faults
 pub mod Sends
 pub mod Ends

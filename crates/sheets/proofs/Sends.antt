@@ -39,6 +39,7 @@ use Rattle.sheets.specs.declared.Sheet.{Sheet}
 use Rattle.sheets.specs.declared.Answered.{Answered}
 use Rattle.sheets.specs.Sheet.{State, markedOf, answerOf, sendAnswer, blocksLine, isMisplaced, sendLine}
 use Rattle.sheets.specs.Keeping.{mapOf, stateOf, MapReady, Marked, Ready, markedMesh, Sendable, Opens, Answers}
+use Rattle.sheets.proofs.Phases.{faults-begun, sends-begun}
 
 -- A send's answer.
 
@@ -141,12 +142,6 @@ module _ (s : Sheet) {map : List ℕ} (m : MapReady s map) (on : s .phase ≡ St
   unfolding mapRefusals
   ready-clear p = let f = m .four on in rw (f .good-columns, f .good-rows, f .good-length, f .good-bytes, p)
 
-pub faults-on : {p : Phase} → p ≡ Faults → p ≡ Start → ⊥
-faults-on e f = let z : _≡_ {A = ℕ} 0 1 = cc in omega (arith, z)
-
-sends-on : {p : Phase} → p ≡ Sends → p ≡ Start → ⊥
-sends-on e f = let z : _≡_ {A = ℕ} 0 1 = cc in omega (arith, z)
-
 -- The marking.
 
 pub count-few : (s : Sheet) {map : List ℕ} → MapReady s map → (s .phase ≡ Start → ⊥) → (marks : List ℕ) {k : ℕ} → k ≡ length (blocks (mesh (s .columns) (s .rows) marks)) → k < 100000
@@ -160,7 +155,7 @@ module _ (s : Sheet) {map marks : List ℕ} (m : Marked s map marks) where
 pub sendable : (s : Sheet) {map marks : List ℕ} → Ready s map marks → s .phase ≡ Sends → Sendable s marks
 sendable s {map} r e =
     let m = r .sends e in
-    let z = ready-sized s (r .on-map) (sends-on e) in
+    let z = ready-sized s (r .on-map) (sends-begun e) in
     record {
       room = r .room;
       sized =
@@ -168,7 +163,7 @@ sendable s {map} r e =
           (record { few-columns = z .few-columns; few-rows = z .few-rows; size = marked-length (mesh (s .columns) (s .rows) (mapOf s map)) ∙ z .size });
       obstacles =
           rw (m .marking)
-          (obstacles (accepted _ _ _ (ready-clear s (r .on-map) (sends-on e) (m .placed))));
+          (obstacles (accepted _ _ _ (ready-clear s (r .on-map) (sends-begun e) (m .placed))));
     }
 
 -- The first send: `no 5`, or the marking is made.
@@ -190,7 +185,7 @@ module _ (s : Sheet) {map : List ℕ} {b : Bool} (is-b : b ≡ misplaced (s .col
 module _ (s : Sheet) {map : List ℕ} (m : MapReady s map) (f : s .phase ≡ Faults) {new : List ℕ} (is-new : new ≡ marked (mesh (s .columns) (s .rows) (mapOf s map)) .map) where
   new-length : length new ≡ s .columns * s .rows
   new-length =
-      ap length is-new ∙ marked-length (mesh (s .columns) (s .rows) (mapOf s map)) ∙ ready-sized s m (faults-on f) .size
+      ap length is-new ∙ marked-length (mesh (s .columns) (s .rows) (mapOf s map)) ∙ ready-sized s m (faults-begun f) .size
 
   front : (rest : List ℕ) → take (s .columns * s .rows) (new ++ rest) ≡ new
   front rest = take-at new rest _ new-length
@@ -200,7 +195,7 @@ module _ (s : Sheet) {map : List ℕ} (m : MapReady s map) (f : s .phase ≡ Fau
 
   pub front-sized : (rest : List ℕ) → Sized (s .columns) (s .rows) (take (s .columns * s .rows) (new ++ rest))
   front-sized rest =
-      let z = ready-sized s m (faults-on f) in
+      let z = ready-sized s m (faults-begun f) in
       rw (front rest) (record { few-columns = z .few-columns; few-rows = z .few-rows; size = new-length })
 
   pub opened : {b : Bool} {marks out : List ℕ} {at k x : ℕ} {after : List ℕ} → Ready s map marks → b ≡ misplaced (s .columns) (s .rows) (mapOf s map) → b ≡ false → k ≡ length (blocks (mesh (s .columns) (s .rows) (take (s .columns * s .rows) (new ++ drop (s .columns * s .rows) marks)))) → Puts out at (line blocksWord k) x after → Opens s map out at (record { sheet = record { phase = Sends; columns = s .columns; rows = s .rows }; at = x; ends = false }) (new ++ drop (s .columns * s .rows) marks) after
@@ -209,7 +204,7 @@ module _ (s : Sheet) {map : List ℕ} (m : MapReady s map) (f : s .phase ≡ Fau
       let q : misplaced (s .columns) (s .rows) (mapOf s map) ≡ false = sym is-b ∙ e in
       let n = s .columns * s .rows in
       let stands = front (drop n marks) ∙ is-new in
-      let size : length (new ++ drop n marks) ≡ length marks = length-append new (drop n marks) ∙ omega (arith, new-length, length-drop n marks, ready-few s m (faults-on f), r .room) in
+      let size : length (new ++ drop n marks) ≡ length marks = length-append new (drop n marks) ∙ omega (arith, new-length, length-drop n marks, ready-few s m (faults-begun f), r .room) in
       record {
         puts = rw q (rw (is-k, stands) at p);
         ends = sym q;
@@ -218,7 +213,7 @@ module _ (s : Sheet) {map : List ℕ} (m : MapReady s map) (f : s .phase ≡ Fau
         ready =
             λ z.
             record {
-              on-map = record { room = m .room; four = λ g. m .four (faults-on f) };
+              on-map = record { room = m .room; four = λ g. m .four (faults-begun f) };
               room = omega (arith, size, r .room);
               sends = λ g. record { placed = q; marking = stands };
             };
@@ -249,7 +244,7 @@ module _ (s : Sheet) {map out : List ℕ} {at : ℕ} {x : Answered} {marks after
         let q : isMisplaced (stateOf s map) ≡ false = sym (o .ends) ∙ e in
         let p = rw q at (o .puts) in
         let w = markedOf (stateOf s map) in
-        let short = line-length blocksWord (length (blocks w)) (count-few s m (faults-on f) (w .map) refl) in
+        let short = line-length blocksWord (length (blocks w)) (count-few s m (faults-begun f) (w .map) refl) in
         omega (arith, p .next, short, ap length (p .stands) ∙ over-length out at (blocksLine (stateOf s map)), h)
 
     pub first-sent : (from to : Place) {x′ : ℕ} {after′ : List ℕ} → Puts after (x .at) (sendAnswer (markedMesh (x .sheet) marks) from to) x′ after′ → (n : ℕ) → Answers (sendLine Faults n (stateOf s map) from to) out at (record { sheet = x .sheet; at = x′; ends = false }) map marks after′

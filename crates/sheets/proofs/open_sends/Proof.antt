@@ -3,21 +3,22 @@ use borrow.Author.Needs.{needs}
 use native.Mathlib.Omega.{arith}
 use mathlib.Core.Path.{sym, _∙_}
 use lib.Seq.{length-take-le}
-use Rattle.sheets.proofs.Sends.{faults-on, ready-sized, ready-few, count-few, front-within, front-sized, not-opened, opened}
+use Rattle.sheets.proofs.Phases.{faults-begun}
+use Rattle.sheets.proofs.Sends.{ready-sized, ready-few, count-few, front-within, front-sized, not-opened, opened}
 use Rattle.sheets.proofs.open_sends.Statement.{statement}
 use Rattle.sheets.proofs.open_sends.Tie as tie
 
 mul-size : tie.Need-mul-size
-mul-size c = omega (arith, ready-few _ (c .before .before .before .pre .0 .on-map) (faults-on (c .before .before .before .pre .1)))
+mul-size c = omega (arith, ready-few _ (c .before .before .before .pre .0 .on-map) (faults-begun (c .before .before .before .pre .1)))
 
 cast-n : tie.Need-cast-n
-cast-n c = omega (arith, ready-few _ (c .before .before .before .pre .0 .on-map) (faults-on (c .before .before .before .pre .1)))
+cast-n c = omega (arith, ready-few _ (c .before .before .before .pre .0 .on-map) (faults-begun (c .before .before .before .pre .1)))
 
 slice-aggregate-has-misplaced : tie.Need-slice-aggregate-has-misplaced
-slice-aggregate-has-misplaced c = sym (ready-sized _ (c .before .before .before .before .pre .0 .on-map) (faults-on (c .before .before .before .before .pre .1)) .size)
+slice-aggregate-has-misplaced c = sym (ready-sized _ (c .before .before .before .before .pre .0 .on-map) (faults-begun (c .before .before .before .before .pre .1)) .size)
 
 has-misplaced-requires : tie.Need-has-misplaced-requires
-has-misplaced-requires c κs = ready-sized _ (c .before .before .before .before .pre .0 .on-map) (faults-on (c .before .before .before .before .pre .1))
+has-misplaced-requires c κs = ready-sized _ (c .before .before .before .before .pre .0 .on-map) (faults-begun (c .before .before .before .before .pre .1))
 
 refuse-requires : tie.Need-refuse-requires
 refuse-requires c κs = search needs
@@ -29,16 +30,16 @@ returns : tie.Need-returns
 returns c = not-opened _ (c .before .before .before .before .before .has-misplaced .ensures) (c .before .before .before .before .if1 .taken) (c .before .before .refuse .ensures)
 
 slice-aggregate-mark : tie.Need-slice-aggregate-mark
-slice-aggregate-mark c = sym (ready-sized _ (c .before .before .before .before .before .before .before .pre .0 .on-map) (faults-on (c .before .before .before .before .before .before .before .pre .1)) .size)
+slice-aggregate-mark c = sym (ready-sized _ (c .before .before .before .before .before .before .before .pre .0 .on-map) (faults-begun (c .before .before .before .before .before .before .before .pre .1)) .size)
 
 slice-relend-prefix-mark : tie.Need-slice-relend-prefix-mark
-slice-relend-prefix-mark c = omega (arith, ready-few _ (c .before .before .before .before .before .before .before .pre .0 .on-map) (faults-on (c .before .before .before .before .before .before .before .pre .1)), c .before .before .before .before .before .before .before .pre .0 .room)
+slice-relend-prefix-mark c = omega (arith, ready-few _ (c .before .before .before .before .before .before .before .pre .0 .on-map) (faults-begun (c .before .before .before .before .before .before .before .pre .1)), c .before .before .before .before .before .before .before .pre .0 .room)
 
 slice-aggregate-mark-2 : tie.Need-slice-aggregate-mark-2
-slice-aggregate-mark-2 c = sym (length-take-le _ _ (omega (arith, ready-few _ (c .before .before .before .before .before .before .before .before .pre .0 .on-map) (faults-on (c .before .before .before .before .before .before .before .before .pre .1)), c .before .before .before .before .before .before .before .before .pre .0 .room)))
+slice-aggregate-mark-2 c = sym (length-take-le _ _ (omega (arith, ready-few _ (c .before .before .before .before .before .before .before .before .pre .0 .on-map) (faults-begun (c .before .before .before .before .before .before .before .before .pre .1)), c .before .before .before .before .before .before .before .before .pre .0 .room)))
 
 mark-requires : tie.Need-mark-requires
-mark-requires c κs = (ready-sized _ (c .before .before .before .before .before .before .before .before .pre .0 .on-map) (faults-on (c .before .before .before .before .before .before .before .before .pre .1)), length-take-le _ _ (omega (arith, ready-few _ (c .before .before .before .before .before .before .before .before .pre .0 .on-map) (faults-on (c .before .before .before .before .before .before .before .before .pre .1)), c .before .before .before .before .before .before .before .before .pre .0 .room)) ∙ sym (ready-sized _ (c .before .before .before .before .before .before .before .before .pre .0 .on-map) (faults-on (c .before .before .before .before .before .before .before .before .pre .1)) .size))
+mark-requires c κs = (ready-sized _ (c .before .before .before .before .before .before .before .before .pre .0 .on-map) (faults-begun (c .before .before .before .before .before .before .before .before .pre .1)), length-take-le _ _ (omega (arith, ready-few _ (c .before .before .before .before .before .before .before .before .pre .0 .on-map) (faults-begun (c .before .before .before .before .before .before .before .before .pre .1)), c .before .before .before .before .before .before .before .before .pre .0 .room)) ∙ sym (ready-sized _ (c .before .before .before .before .before .before .before .before .pre .0 .on-map) (faults-begun (c .before .before .before .before .before .before .before .before .pre .1)) .size))
 
 slice-reshare-prefix-count-blocks : tie.Need-slice-reshare-prefix-count-blocks
 slice-reshare-prefix-count-blocks c = front-within _ (c .before .before .before .before .before .before .before .before .before .before .before .pre .0 .on-map) (c .before .before .before .before .before .before .before .before .before .before .before .pre .1) (c .before .before .mark .ensures) _
@@ -50,7 +51,7 @@ count-blocks-requires : tie.Need-count-blocks-requires
 count-blocks-requires c κs = front-sized _ (c .before .before .before .before .before .before .before .before .before .before .before .before .pre .0 .on-map) (c .before .before .before .before .before .before .before .before .before .before .before .before .pre .1) (c .before .before .before .mark .ensures) _
 
 put-blocks-requires : tie.Need-put-blocks-requires
-put-blocks-requires c κs = (count-few _ (c .before .before .before .before .before .before .before .before .before .before .before .before .before .before .pre .0 .on-map) (faults-on (c .before .before .before .before .before .before .before .before .before .before .before .before .before .before .pre .1)) _ (c .before .count-blocks .ensures), omega (arith, c .before .before .before .before .before .before .before .before .before .before .before .before .before .before .pre .2))
+put-blocks-requires c κs = (count-few _ (c .before .before .before .before .before .before .before .before .before .before .before .before .before .before .pre .0 .on-map) (faults-begun (c .before .before .before .before .before .before .before .before .before .before .before .before .before .before .pre .1)) _ (c .before .count-blocks .ensures), omega (arith, c .before .before .before .before .before .before .before .before .before .before .before .before .before .before .pre .2))
 
 same-length-2 : tie.Need-same-length-2
 same-length-2 c = search needs
