@@ -1,12 +1,12 @@
 -- Bytes written one after another stand as a whole. Assumes nothing.
-use mathlib.Core.Path.{_≡_, refl, sym, ap, _∙_}
+use mathlib.Core.Path.{_≡_, refl, sym, _∙_}
 use mathlib.Core.List.{List, [], _∷_, _++_, append-assoc}
 use Prim.Native.Nat.{ℕ, zero, suc, _+_, _≤_}
 use native.Mathlib.Nat.{add-zero, zero-add}
 use native.Mathlib.Numerals.{add-one}
 use native.Mathlib.Omega.{arith}
 use lib.ListN.{length, take, drop, set, length-set, length-append, take-append-drop}
-use lib.Seq.{take-at, take-suc-set, drop-set-lt, length-take-le}
+use lib.Seq.{take-suc-set, drop-set-lt}
 use Rattle.buffers.specs.Over.{over, Puts}
 
 pub set-beyond : (xs : List ℕ) (i y : ℕ) → length xs ≤ i → xs ≡ set xs i y
@@ -37,12 +37,6 @@ over-from xs i (y ∷ ys) h =
 
 pub over-all : (xs ys : List ℕ) → length ys ≤ length xs → over xs 0 ys ≡ ys ++ drop (length ys) xs
 over-all xs ys h = over-from xs 0 ys (omega arith) ∙ rw (zero-add (length ys))
-
-pub take-over : (xs : List ℕ) (i : ℕ) (ys : List ℕ) → i + length ys ≤ length xs → take (i + length ys) (over xs i ys) ≡ take i xs ++ ys
-take-over xs i ys h =
-    let n : length (take i xs ++ ys) ≡ i + length ys = length-append (take i xs) ys ∙ rw (length-take-le i xs (omega arith)) in
-    ap (take (i + length ys)) (over-from xs i ys h ∙ sym (append-assoc (take i xs) ys (drop (i + length ys) xs))) ∙
-    take-at (take i xs ++ ys) (drop (i + length ys) xs) (i + length ys) n
 
 pub puts-nothing : (out : List ℕ) (at : ℕ) → at ≤ length out → Puts out at [] at out
 unfolding over

@@ -9,7 +9,6 @@ ghost use Rattle.maps.specs.Sized.{Sized};
 ghost use Rattle.marking.specs.Rounds.{nodeAfter, Advanced, Copied};
 ghost use Rattle.marking.specs.Marks.{MarksMap};
 use maps::check_map;
-use maps::is_bad;
 use maps::is_bad_ahead;
 use mesh::Checked;
 use mesh::Column;

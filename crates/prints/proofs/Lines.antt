@@ -18,10 +18,6 @@ unfolding spacedLetters
 letters-length [] = omega arith
 letters-length (x ∷ xs) = omega arith
 
-pub okLine-length : (letters : List ℕ) → length letters < 100000 → length (okLine letters) ≤ length letters + 10
-unfolding okLine
-okLine-length letters h = simp length-append (omega (arith, decimal-length (length letters) h, letters-length letters))
-
 module _ {out : List ℕ} {at x : ℕ} {mid : List ℕ} where
   pub puts-digit : (n : ℕ) → n < 10 → Puts out at ((48 + n % 10) ∷ []) x mid → Puts out at (decimal n) x mid
   puts-digit n h p =

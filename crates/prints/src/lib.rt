@@ -8,7 +8,7 @@ use buffers::put;
 use buffers::put_byte;
 
 // A number in decimal.
-pub fn put_number(out: &mut [u8], at: usize, n: u32) -> usize
+fn put_number(out: &mut [u8], at: usize, n: u32) -> usize
     requires { ⌜ (n < 100000) × (at + 5 ≤ length (now out)) ⌝ }
     ensures { λ x. ⌜ Puts (now (out .entry)) at (decimal n) x (now (out .exit)) ⌝ }
 {
@@ -21,7 +21,7 @@ pub fn put_number(out: &mut [u8], at: usize, n: u32) -> usize
 }
 
 // A word with its space, a number, a newline.
-pub fn put_line(out: &mut [u8], at: usize, word: &[u8], n: u32) -> usize
+fn put_line(out: &mut [u8], at: usize, word: &[u8], n: u32) -> usize
     requires { ⌜ (n < 100000) × (at + length (now word) + 6 ≤ length (now out)) ⌝ }
     ensures { λ x. ⌜ Puts (now (out .entry)) at (line (now (word .entry)) n) x (now (out .exit)) ⌝ }
 {

@@ -343,7 +343,7 @@ fn send_line(
 }
 
 // A line with its newline, without which text is given.
-pub fn answer_line(
+fn answer_line(
     sheet: Sheet,
     number: u32,
     text: &[u8],
