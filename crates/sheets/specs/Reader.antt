@@ -1,11 +1,11 @@
 -- A sheet read byte by byte, of which never more than a line of 20 bytes is held. Assumes nothing.
 use mathlib.Core.Bool.{Bool, true, false, cond}
 use mathlib.Core.List.{List, [], _∷_, _++_}
-use Prim.Native.Nat.{ℕ, zero, suc}
+use Prim.Native.Nat.{ℕ, suc}
 use lib.Dec.{leb, eqb}
 use lib.ListN.{length}
 use Rattle.prints.specs.Prints.{line, lineWord}
-use Rattle.sheets.specs.Sheet.{State, nothing, Line, Step, lineStep, atEnd}
+use Rattle.sheets.specs.Sheet.{State, nothing, Step, lineStep, atEnd}
 
 -- the number of the line being read, what the lines before it have said, what is held of it, and whether the run is over
 pub record Reader : Type 0 where
