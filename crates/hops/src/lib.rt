@@ -1,14 +1,13 @@
 // A packet's hop: whether it is lawful, and the packet after it.
 ghost use mathlib.Core.Path.{_≡_};
 ghost use Prim.Native.Nat.{_<_};
-ghost use Rattle.mesh.specs.declared.Letter.the-variants.{Hop};
 ghost use Rattle.mesh.specs.Mesh.{mesh, rowAfter, columnAfter};
 ghost use Rattle.mesh.specs.Walk.{stays};
-ghost use Rattle.mesh.specs.Packets.{place, at, tripOf, isThere, movedPacket};
-ghost use Rattle.mesh.specs.Judging.{testedNumber, letterFault};
+ghost use Rattle.mesh.specs.Packets.{place, isThere, movedPacket};
 ghost use Rattle.maps.specs.Sized.{Sized};
 ghost use Rattle.hops.specs.Lands.{Lands};
-use maps::is_bad_ahead;
+ghost use Rattle.hops.specs.Tests.{Tests};
+use maps::is_bad_node;
 use mesh::Column;
 use mesh::Fault;
 use mesh::Heading;
@@ -31,31 +30,6 @@ fn stays(columns: u32, rows: u32, r: Row, c: Column, h: Heading) -> bool
         Heading::South => return 1 <= r.0,
         Heading::West => return 1 <= c.0,
     }
-}
-
-// What is wrong with a hop, tested in the order of the numbers.
-pub fn test_hop(columns: u32, rows: u32, marks: &[u8], p: Packet, h: Heading) -> Tested
-    requires { ⌜ Sized columns rows (now marks) × (p .place .row .0 < 64) × (p .place .column .0 < 64) ⌝ }
-    ensures { λ x. ⌜ testedNumber x ≡ letterFault (tripOf (mesh columns rows (now (marks .entry))) p) (at p) (Hop h) ⌝ }
-{
-    let r = p.place.row;
-    let c = p.place.column;
-    let l = p.last;
-    if !stays(columns, rows, r, c, h) {
-        return Tested::Wrong(Fault::LeavesMesh);
-    }
-    if turns_back(l, h) {
-        return Tested::Wrong(Fault::Reverses);
-    }
-    let wrong_turn = turns_wrong(l, h, c);
-    let blocked = is_bad_ahead(columns, rows, marks, r, c, h, 1);
-    if wrong_turn {
-        return Tested::Wrong(Fault::ForbiddenTurn);
-    }
-    if blocked {
-        return Tested::Wrong(Fault::EntersBlock);
-    }
-    Tested::Lawful
 }
 
 // The place after a hop.
@@ -101,6 +75,30 @@ pub fn moved(p: Packet, h: Heading) -> Packet
         last,
         destination,
     }
+}
+
+// What is wrong with a hop, tested in the order of the numbers.
+pub fn test_hop(columns: u32, rows: u32, marks: &[u8], p: Packet, h: Heading) -> Tested
+    requires { ⌜ Sized columns rows (now marks) × (p .place .row .0 < rows) × (p .place .column .0 < columns) ⌝ }
+    ensures { λ x. ⌜ Tests (mesh columns rows (now (marks .entry))) p h x ⌝ }
+{
+    let r = p.place.row;
+    let c = p.place.column;
+    let l = p.last;
+    if !stays(columns, rows, r, c, h) {
+        return Tested::Wrong(Fault::LeavesMesh);
+    }
+    let after = moved(p, h);
+    if turns_back(l, h) {
+        return Tested::Wrong(Fault::Reverses);
+    }
+    if turns_wrong(l, h, c) {
+        return Tested::Wrong(Fault::ForbiddenTurn);
+    }
+    if is_bad_node(columns, rows, marks, after.place.row, after.place.column) {
+        return Tested::Wrong(Fault::EntersBlock);
+    }
+    Tested::Lawful(after)
 }
 
 // Whether the packet is at its destination.

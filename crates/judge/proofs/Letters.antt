@@ -3,7 +3,7 @@ use mathlib.Core.Path.{_≡_, refl, sym, _∙_}
 use mathlib.Core.Logic.{inl, inr}
 use mathlib.Core.Bool.{true, false, cond}
 use mathlib.Core.List.{List}
-use Prim.Native.Nat.{ℕ, suc, _+_, _≤_, _<_}
+use Prim.Native.Nat.{ℕ, suc, _+_, _<_}
 use native.Mathlib.Numerals.{add-one}
 use native.Mathlib.Omega.{arith}
 use lib.ListN.{length, getD, drop, drop-of-length-le}
@@ -19,12 +19,12 @@ use Rattle.mesh.specs.declared.Packet.{Packet}
 use Rattle.mesh.specs.Mesh.{Mesh}
 use Rattle.mesh.specs.Hops.{Trip, atDestination}
 use Rattle.mesh.specs.Walk.{At, stays, moved, arrived}
-use Rattle.mesh.specs.Packets.{at, tripOf, isThere, movedPacket}
+use Rattle.mesh.specs.Packets.{at, tripOf, isThere}
 use Rattle.mesh.specs.Judging.{faultNumber, testedNumber, named, letterFault, follow, passed, failed, unless, judge}
 use Rattle.mesh.proofs.Bools.{value}
 use Rattle.mesh.proofs.Refusals.{fault-some}
-use Rattle.hops.specs.Lands.{Lands}
-use Rattle.hops.proofs.Landing.{stays-lands, stays-on}
+use Rattle.hops.specs.Tests.{Tests}
+use Rattle.hops.proofs.Landing.{stays-on}
 
 -- a letter with nothing wrong stays on the mesh
 lawful-stays : (w : Trip) (p : At) (h : Heading) → letterFault w p (Hop h) ≡ 0 → stays (w .columns) (w .rows) h (p .row) (p .column) ≡ true
@@ -54,33 +54,24 @@ module _ (w : Mesh) (packet : Packet) (xs : List ℕ) where
       unfolding letterFault unless faultNumber
       judging-other e o = sym (rest-letter e ∙ rw o)
 
-      module _ {l : Letter} {hop : Heading} {t : Tested} (e : l ≡ named (getD xs i 0)) (o : l ≡ Hop hop) (n : testedNumber t ≡ letterFault (tripOf w p) (at p) (Hop hop)) where
+      module _ {l : Letter} {hop : Heading} {t : Tested} (e : l ≡ named (getD xs i 0)) (o : l ≡ Hop hop) (x : Tests w p hop t) where
         pub judging-wrong : {f : Fault} → t ≡ Wrong f → failed (faultNumber f) i ≡ judge (tripOf w packet) (at packet) 0 xs
         unfolding testedNumber unless
         judging-wrong {f} q =
-            sym (rest-letter e ∙ rw (o, ← n, q, fault-some f))
+            sym (rest-letter e ∙ rw (o, ← x .told, q, fault-some f))
 
-        module _ (q : t ≡ Lawful) where
-          none : letterFault (tripOf w p) (at p) (Hop hop) ≡ 0
-          unfolding testedNumber
-          none = sym n ∙ rw q
-
-          stays-here : stays (w .columns) (w .rows) hop (p .place .row .0) (p .place .column .0) ≡ true
-          stays-here = lawful-stays (tripOf w p) (at p) hop none
-
-          pub judging-lands : w .columns ≤ 64 → w .rows ≤ 64 → Lands hop (p .place .row .0) (p .place .column .0)
-          judging-lands cs rs = stays-lands (w .columns) (w .rows) _ _ (s .row) (s .column) hop cs rs stays-here
-
-          pub judging-on : Judging w packet (movedPacket hop p) xs (i + 1)
-          unfolding unless follow moved
-          judging-on =
-              let on = stays-on (w .columns) (w .rows) _ _ (s .row) (s .column) hop stays-here in
-              record {
-                row = on .0;
-                column = on .1;
-                same = s .same;
-                rest = rest-letter e ∙ rw (o, none, add-one);
-              }
+        pub judging-on : {after : Packet} → t ≡ Lawful after → Judging w packet after xs (i + 1)
+        unfolding testedNumber unless follow moved
+        judging-on q =
+            let none : letterFault (tripOf w p) (at p) (Hop hop) ≡ 0 = sym (x .told) ∙ rw q in
+            let on = stays-on (w .columns) (w .rows) _ _ (s .row) (s .column) hop (lawful-stays (tripOf w p) (at p) hop none) in
+            rw (x .onward q)
+            (record {
+              row = on .0;
+              column = on .1;
+              same = s .same;
+              rest = rest-letter e ∙ rw (o, none, add-one);
+            })
 
     module _ (h : i ≡ length xs) where
       rest-none : judge (tripOf w packet) (at packet) 0 xs ≡ cond (isThere p) (passed i) (failed 16 i)

@@ -7,7 +7,6 @@ ghost use Rattle.mesh.specs.Judging.{named, judge, judgedVerdict, judgement};
 ghost use Rattle.maps.specs.Sized.{Sized};
 ghost use Rattle.judge.specs.Marked.{judgementOn};
 use hops::is_there;
-use hops::moved;
 use hops::test_hop;
 use marking::mark_map;
 use mesh::Checked;
@@ -54,10 +53,12 @@ fn judge_letters(columns: u32, rows: u32, marks: &[u8], packet: Packet, letters:
             Letter::Other => return Judged::Failed(Fault::NoLetter, i),
             Letter::Hop(h) => {
                 let tested = test_hop(columns, rows, marks, p, h);
-                if let Tested::Wrong(f) = tested {
-                    return Judged::Failed(f, i);
+                match tested {
+                    Tested::Wrong(f) => return Judged::Failed(f, i),
+                    Tested::Lawful(after) => {
+                        p = after;
+                    }
                 }
-                p = moved(p, h);
             }
         }
         i += 1;

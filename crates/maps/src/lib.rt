@@ -130,21 +130,29 @@ pub fn check_map(columns: u32, rows: u32, map: &[u8]) -> Checked
     Checked::Clear
 }
 
-// Whether the node is bad. Places beyond the mesh are never bad.
-pub fn is_bad(columns: u32, rows: u32, map: &[u8], r: Row, c: Column) -> bool
-    requires { ⌜ Sized columns rows (now map) ⌝ }
+// Whether the node is bad.
+pub fn is_bad_node(columns: u32, rows: u32, map: &[u8], r: Row, c: Column) -> bool
+    requires { ⌜ Sized columns rows (now map) × (r .0 < rows) × (c .0 < columns) ⌝ }
     ensures { λ x. ⌜ x ≡ bad (mesh columns rows (now (map .entry))) (r .0) (c .0) ⌝ }
 {
     let row = r.0;
     let column = c.0;
-    if rows <= row {
-        return false;
-    }
-    if columns <= column {
-        return false;
-    }
     let at = row * columns + column;
     map[at as usize] != 0
+}
+
+// Whether the place is a bad node. Places beyond the mesh never are.
+pub fn is_bad(columns: u32, rows: u32, map: &[u8], r: Row, c: Column) -> bool
+    requires { ⌜ Sized columns rows (now map) ⌝ }
+    ensures { λ x. ⌜ x ≡ bad (mesh columns rows (now (map .entry))) (r .0) (c .0) ⌝ }
+{
+    if rows <= r.0 {
+        return false;
+    }
+    if columns <= c.0 {
+        return false;
+    }
+    is_bad_node(columns, rows, map, r, c)
 }
 
 // Whether the node k hops that way is bad.

@@ -30,7 +30,7 @@ faultNumber NotArrived = 16
 
 -- 0 where nothing is wrong
 unfoldable pub testedNumber : Tested → ℕ
-testedNumber Lawful = 0
+testedNumber (Lawful p) = 0
 testedNumber (Wrong f) = faultNumber f
 
 -- the hop that a byte names

@@ -66,9 +66,9 @@ pub enum Fault {
     NotArrived,
 }
 
-// Whether a letter of a hand-in is lawful.
+// Whether a hop is lawful, and the packet after it.
 pub enum Tested {
-    Lawful,
+    Lawful(Packet),
     Wrong(Fault),
 }
 

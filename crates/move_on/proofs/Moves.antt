@@ -3,7 +3,7 @@ use mathlib.Core.Path.{_≡_, sym, _∙_}
 use mathlib.Core.Logic.{inl, inr}
 use mathlib.Core.Bool.{true, false, cond}
 use mathlib.Core.List.{List}
-use Prim.Native.Nat.{ℕ, _≤_, _<_}
+use Prim.Native.Nat.{ℕ}
 use native.Mathlib.Omega.{arith}
 use Rattle.mesh.specs.declared.Heading.{Heading}
 use Rattle.mesh.specs.declared.Letter.the-variants.{Hop}
@@ -18,16 +18,15 @@ use Rattle.mesh.specs.declared.Packet.{Packet}
 use Rattle.mesh.specs.Mesh.{Mesh, mesh}
 use Rattle.mesh.specs.Blocks.{marked}
 use Rattle.mesh.specs.Walk.{lawful, hopAt}
-use Rattle.mesh.specs.Packets.{at, tripOf, isThere, movedPacket}
+use Rattle.mesh.specs.Packets.{at, tripOf, isThere}
 use Rattle.mesh.specs.Refusals.{number, mapRefusals, placeRefusals, onARing}
-use Rattle.mesh.specs.Judging.{faultNumber, testedNumber, letterFault}
+use Rattle.mesh.specs.Judging.{faultNumber, testedNumber}
 use Rattle.mesh.specs.Moving.{movedTold, moveRefusal, hopFrom, mayHop, told, recordAfter, MovesOn}
-use Rattle.mesh.proofs.Bools.{value, and-both}
+use Rattle.mesh.proofs.Bools.{value}
 use Rattle.mesh.proofs.Refusals.{number-some, fault-some, others-next}
 use Rattle.judge_theory.proofs.Theorems.{letter-lawful}
 use Rattle.places.proofs.Placed.{places-next}
-use Rattle.hops.specs.Lands.{Lands}
-use Rattle.hops.proofs.Landing.{stays-lands}
+use Rattle.hops.specs.Tests.{Tests}
 use Rattle.move_on.specs.Marked.{refusalOn, Moves}
 
 -- a hop with something wrong is not one with nothing wrong
@@ -40,27 +39,19 @@ module _ (w : Mesh) (p : Packet) where
   moves-refused why e = record { answers = rw (e, number-some why); leaves = rw (e, number-some why) }
 
   -- the hop by the rules, tested
-  module _ (away : isThere p ≡ false) {h : Heading} (e : h ≡ hopAt (tripOf w p) (at p)) {t : Tested} (n : testedNumber t ≡ letterFault (tripOf w p) (at p) (Hop h)) where
-    module _ (q : t ≡ Lawful) where
-      is-lawful : lawful (tripOf w p) (at p) h ≡ true
-      unfolding testedNumber
-      is-lawful = letter-lawful (tripOf w p) (at p) h .0 (sym n ∙ rw q)
-
-      pub hop-lands : p .place .row .0 < w .rows → p .place .column .0 < w .columns → w .columns ≤ 64 → w .rows ≤ 64 → Lands h (p .place .row .0) (p .place .column .0)
-      unfolding lawful
-      hop-lands r c cs rs = stays-lands (w .columns) (w .rows) _ _ r c h cs rs (and-both is-lawful .0)
-
-      pub moves-hop : {after : Packet} → after ≡ movedPacket h p → Moves 0 w p (moves.Hop h) after
-      unfolding movedTold told recordAfter mayHop hopFrom
-      moves-hop m =
-          let l = rw e at is-lawful in
-          record { answers = rw (away, e, l); leaves = rw (m, away, e, l) }
+  module _ (away : isThere p ≡ false) {h : Heading} (e : h ≡ hopAt (tripOf w p) (at p)) {t : Tested} (x : Tests w p h t) where
+    pub moves-hop : {after : Packet} → t ≡ Lawful after → Moves 0 w p (moves.Hop h) after
+    unfolding movedTold told recordAfter mayHop hopFrom testedNumber
+    moves-hop q =
+        let l : lawful (tripOf w p) (at p) h ≡ true = letter-lawful (tripOf w p) (at p) h .0 (sym (x .told) ∙ rw q) in
+        let l′ = rw e at l in
+        record { answers = rw (away, e, l′); leaves = rw (x .onward q, away, e, l′) }
 
     pub moves-unlawful : {f : Fault} → t ≡ Wrong f → Moves 0 w p (moves.Refused Unlawful) p
     unfolding movedTold told recordAfter mayHop hopFrom testedNumber number
     moves-unlawful {f} q =
         elim (value (lawful (tripOf w p) (at p) h)) [
-          | inl l ↦ absurd (wrong-some f ((rw q at n) ∙ letter-lawful (tripOf w p) (at p) h .1 l))
+          | inl l ↦ absurd (wrong-some f ((rw q at (x .told)) ∙ letter-lawful (tripOf w p) (at p) h .1 l))
           | inr l ↦ let m = rw e at l in record { answers = rw (away, m); leaves = rw (away, m) }
         ]
 

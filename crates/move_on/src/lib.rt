@@ -10,7 +10,6 @@ ghost use Rattle.block_theory.specs.Obstacles.{Obstacles};
 ghost use Rattle.maps.specs.Sized.{Sized};
 ghost use Rattle.move_on.specs.Marked.{refusalOn, Moves};
 use hops::is_there;
-use hops::moved;
 use hops::test_hop;
 use marking::mark_map;
 use mesh::Checked;
@@ -30,8 +29,7 @@ fn make_hop(columns: u32, rows: u32, marks: &[u8], before: Packet) -> Stepped
 {
     let h = hop(columns, rows, marks, before);
     let tested = test_hop(columns, rows, marks, before, h);
-    if let Tested::Lawful = tested {
-        let after = moved(before, h);
+    if let Tested::Lawful(after) = tested {
         return Stepped {
             packet: after,
             moved: Moved::Hop(h),

@@ -2,7 +2,7 @@
 ghost use mathlib.Core.Path.{_≡_};
 ghost use mathlib.Core.Bool.{_||_};
 ghost use Rattle.mesh.specs.declared.Heading.the-variants.{North, South};
-ghost use Rattle.mesh.specs.Mesh.{letter, same, opposite};
+ghost use Rattle.mesh.specs.Mesh.{letter, same};
 ghost use Rattle.mesh.specs.Turns.{turnsWest, forbidden, reverses, turnsBack, turnsWrong};
 use mesh::Column;
 use mesh::Heading;
@@ -54,22 +54,16 @@ fn is_forbidden(before: Heading, after: Heading, c: Column) -> bool
     false
 }
 
-fn opposite(h: Heading) -> Heading
-    ensures { λ x. ⌜ x ≡ opposite h ⌝ }
-{
-    match h {
-        Heading::East => return Heading::West,
-        Heading::North => return Heading::South,
-        Heading::South => return Heading::North,
-        Heading::West => return Heading::East,
-    }
-}
-
 // Whether the second hop goes back where the first came from.
 fn reverses(before: Heading, after: Heading) -> bool
     ensures { λ x. ⌜ x ≡ reverses before after ⌝ }
 {
-    is_same(after, opposite(before))
+    match before {
+        Heading::East => return is_same(after, Heading::West),
+        Heading::North => return is_same(after, Heading::South),
+        Heading::South => return is_same(after, Heading::North),
+        Heading::West => return is_same(after, Heading::East),
+    }
 }
 
 // Whether the hop reverses the last one.

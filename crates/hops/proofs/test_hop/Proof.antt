@@ -1,9 +1,10 @@
--- Each test is the first that holds. Assumes nothing.
+-- The tests in the order of the numbers. Assumes nothing.
 use borrow.Author.Needs.{needs}
 use mathlib.Core.Path.{sym, _∙_}
-use borrow.Author.Tests.{not-true, not-false}
-use Rattle.mesh.specs.Hops.{blocked}
-use Rattle.mesh.specs.Judging.{faultNumber, testedNumber, letterFault}
+use borrow.Author.Tests.{not-false}
+use Rattle.mesh.specs.Walk.{moved}
+use Rattle.hops.proofs.Landing.{stays-lands, stays-on}
+use Rattle.hops.proofs.Testing.{leaves, turns-back, turns-wrong, enters, passes}
 use Rattle.hops.proofs.test_hop.Statement.{statement}
 use Rattle.hops.proofs.test_hop.Tie as tie
 
@@ -11,33 +12,32 @@ stays-requires : tie.Need-stays-requires
 stays-requires c κs = search needs
 
 returns : tie.Need-returns
-unfolding faultNumber testedNumber letterFault
-returns c = rw (sym (c .before .stays .ensures) ∙ not-true _ (c .if1 .taken))
+returns c = leaves _ _ _ (c .before .stays .ensures) (c .if1 .taken)
+
+moved-requires : tie.Need-moved-requires
+moved-requires c κs = let (size, row, column) = c .before .before .before .before .before .pre in stays-lands _ _ _ _ row column _ (size .few-columns) (size .few-rows) (sym (c .before .stays .ensures) ∙ not-false _ (c .if1 .left))
 
 turns-back-requires : tie.Need-turns-back-requires
 turns-back-requires c κs = search needs
 
 returns-2 : tie.Need-returns-2
-unfolding faultNumber testedNumber letterFault
-returns-2 c = rw (sym (c .before .before .before .stays .ensures) ∙ not-false _ (c .before .before .if1 .left), sym (c .before .turns-back .ensures) ∙ c .if2 .taken)
+returns-2 c = turns-back _ _ _ (c .before .before .before .before .stays .ensures) (c .before .before .before .if1 .left) (c .before .turns-back .ensures) (c .if2 .taken)
 
 turns-wrong-requires : tie.Need-turns-wrong-requires
 turns-wrong-requires c κs = search needs
 
-is-bad-ahead-requires : tie.Need-is-bad-ahead-requires
-is-bad-ahead-requires c κs = search needs
-
 returns-3 : tie.Need-returns-3
-unfolding faultNumber testedNumber letterFault
-returns-3 c = rw (sym (c .before .before .before .before .before .before .stays .ensures) ∙ not-false _ (c .before .before .before .before .before .if1 .left), sym (c .before .before .before .before .turns-back .ensures) ∙ c .before .before .before .if2 .left, sym (c .before .before .turns-wrong .ensures) ∙ c .if3 .taken)
+returns-3 c = turns-wrong _ _ _ (c .before .before .before .before .before .before .stays .ensures) (c .before .before .before .before .before .if1 .left) (c .before .before .before .turns-back .ensures) (c .before .before .if2 .left) (c .before .turns-wrong .ensures) (c .if3 .taken)
+
+is-bad-node-requires : tie.Need-is-bad-node-requires
+unfolding moved
+is-bad-node-requires c κs = let (size, row, column) = c .before .before .before .before .before .before .before .before .before .before .pre in let on = stays-on _ _ _ _ row column _ (sym (c .before .before .before .before .before .before .stays .ensures) ∙ not-false _ (c .before .before .before .before .before .if1 .left)) in rw (c .before .before .before .before .moved .ensures) (size, on .0, on .1)
 
 returns-4 : tie.Need-returns-4
-unfolding faultNumber testedNumber letterFault blocked
-returns-4 c = rw (sym (c .before .before .before .before .before .before .before .stays .ensures) ∙ not-false _ (c .before .before .before .before .before .before .if1 .left), sym (c .before .before .before .before .before .turns-back .ensures) ∙ c .before .before .before .before .if2 .left, sym (c .before .before .before .turns-wrong .ensures) ∙ c .before .if3 .left, sym (c .before .before .is-bad-ahead .ensures) ∙ c .if4 .taken)
+returns-4 c = enters _ _ _ (c .before .before .before .before .before .before .before .before .stays .ensures) (c .before .before .before .before .before .before .before .if1 .left) (c .before .before .before .before .before .turns-back .ensures) (c .before .before .before .before .if2 .left) (c .before .before .before .turns-wrong .ensures) (c .before .before .if3 .left) (c .before .before .before .before .before .before .moved .ensures) (c .before .is-bad-node .ensures) (c .if4 .taken)
 
 returns-5 : tie.Need-returns-5
-unfolding faultNumber testedNumber letterFault blocked
-returns-5 c = rw (sym (c .before .before .before .before .before .before .before .stays .ensures) ∙ not-false _ (c .before .before .before .before .before .before .if1 .left), sym (c .before .before .before .before .before .turns-back .ensures) ∙ c .before .before .before .before .if2 .left, sym (c .before .before .before .turns-wrong .ensures) ∙ c .before .if3 .left, sym (c .before .before .is-bad-ahead .ensures) ∙ c .if4 .left)
+returns-5 c = passes _ _ _ (c .before .before .before .before .before .before .before .before .stays .ensures) (c .before .before .before .before .before .before .before .if1 .left) (c .before .before .before .before .before .turns-back .ensures) (c .before .before .before .before .if2 .left) (c .before .before .before .turns-wrong .ensures) (c .before .before .if3 .left) (c .before .before .before .before .before .before .moved .ensures) (c .before .is-bad-node .ensures) (c .if4 .left)
 
 pub test-hop-spec : {M : Type 1} → statement M
 test-hop-spec =
@@ -45,10 +45,11 @@ test-hop-spec =
     (tie.spec
     stays-requires
     returns
+    moved-requires
     turns-back-requires
     returns-2
     turns-wrong-requires
-    is-bad-ahead-requires
     returns-3
+    is-bad-node-requires
     returns-4
     returns-5)

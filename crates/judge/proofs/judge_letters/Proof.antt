@@ -7,7 +7,7 @@ use lib.ListN.{length}
 use mathlib.Core.Path.{refl}
 use Rattle.mesh.specs.Mesh.{mesh}
 use Rattle.mesh.specs.Judging.{judgedVerdict}
-use Rattle.judge.proofs.Letters.{Judging, judging-start, judging-other, judging-wrong, judging-lands, judging-on, judging-passed, judging-short}
+use Rattle.judge.proofs.Letters.{Judging, judging-start, judging-other, judging-wrong, judging-on, judging-passed, judging-short}
 use Rattle.judge.proofs.judge_letters.Statement.{statement}
 use Rattle.judge.proofs.judge_letters.Tie as tie
 
@@ -37,7 +37,7 @@ enum-known-named : tie.Need-enum-known-named Inv-loop μ-loop
 enum-known-named c = search needs
 
 test-hop-requires : tie.Need-test-hop-requires Inv-loop μ-loop
-test-hop-requires c κs = (c .before .before .before .before .before .before .before .before .before .pre .0, omega (arith, c .before .before .before .before .before .before .before .before .before .pre .0 .few-rows, c .before .before .before .before .before .before .loop .inv .2 .row), omega (arith, c .before .before .before .before .before .before .before .before .before .pre .0 .few-columns, c .before .before .before .before .before .before .loop .inv .2 .column))
+test-hop-requires c κs = let v = c .before .before .before .before .before .before .loop .inv .2 in (c .before .before .before .before .before .before .before .before .before .pre .0, v .row, v .column)
 
 enum-known-tested : tie.Need-enum-known-tested Inv-loop μ-loop
 enum-known-tested c = search needs
@@ -46,11 +46,8 @@ returns-2 : tie.Need-returns-2 Inv-loop μ-loop
 unfolding judgedVerdict
 returns-2 c = judging-wrong _ _ _ (c .before .before .before .before .before .before .before .before .before .before .loop .inv .2) (omega arith) (c .before .before .before .before .before .before .before .read-letter .ensures) (c .before .before .before .before .before .named .given .1) (c .before .before .before .test-hop .ensures) (c .before .tested .given .1)
 
-enum-told-2 : tie.Need-enum-told-2 Inv-loop μ-loop
-enum-told-2 c = search needs
-
-moved-requires : tie.Need-moved-requires Inv-loop μ-loop
-moved-requires c κs = judging-lands _ _ _ (c .before .before .before .before .before .before .before .before .before .loop .inv .2) (omega arith) (c .before .before .before .before .before .before .read-letter .ensures) (c .before .before .before .before .named .given .1) (c .before .before .test-hop .ensures) (c .enum-told2 .given .1) (c .before .before .before .before .before .before .before .before .before .before .before .before .pre .0 .few-columns) (c .before .before .before .before .before .before .before .before .before .before .before .before .pre .0 .few-rows)
+enum-known-tested-2 : tie.Need-enum-known-tested-2 Inv-loop μ-loop
+enum-known-tested-2 c = search needs
 
 add-i : tie.Need-add-i Inv-loop μ-loop
 add-i c = omega (arith, c .before .before .before .before .before .before .before .before .before .before .before .before .before .good .1 .1 .1 .1 .0)
@@ -59,7 +56,7 @@ loop-less : tie.Need-loop-less Inv-loop μ-loop
 loop-less c = omega arith
 
 loop-again : tie.Need-loop-again Inv-loop μ-loop
-loop-again c = (omega arith, refl, rw (c .moved .ensures) (judging-on _ _ _ (c .before .before .before .before .before .before .before .before .before .before .loop .inv .2) (omega arith) (c .before .before .before .before .before .before .before .read-letter .ensures) (c .before .before .before .before .before .named .given .1) (c .before .before .before .test-hop .ensures) (c .before .enum-told2 .given .1)))
+loop-again c = (omega arith, refl, judging-on _ _ _ (c .before .before .before .before .before .before .before .before .before .before .loop .inv .2) (omega arith) (c .before .before .before .before .before .before .before .read-letter .ensures) (c .before .before .before .before .before .named .given .1) (c .before .before .before .test-hop .ensures) (c .before .tested2 .given .1))
 
 is-there-requires : tie.Need-is-there-requires Inv-loop μ-loop
 is-there-requires c κs = tt
@@ -87,8 +84,7 @@ judge-letters-spec =
     test-hop-requires
     enum-known-tested
     returns-2
-    enum-told-2
-    moved-requires
+    enum-known-tested-2
     add-i
     loop-less
     loop-again
