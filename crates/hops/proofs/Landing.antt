@@ -10,30 +10,16 @@ use Rattle.mesh.specs.Mesh.{rowAfter, columnAfter}
 use Rattle.mesh.specs.Walk.{stays}
 use Rattle.hops.specs.Lands.{Lands}
 
-module _ (r c : ℕ) (h : Heading) where
-  pub lands-east : h ≡ E → Lands h r c → c < 64
-  unfolding Lands
-  lands-east e l = rw e at l
-
-  pub lands-north : h ≡ N → Lands h r c → r < 64
-  unfolding Lands
-  lands-north e l = rw e at l
-
-  pub lands-south : h ≡ S → Lands h r c → 1 ≤ r
-  unfolding Lands
-  lands-south e l = rw e at l
-
-  pub lands-west : h ≡ W → Lands h r c → 1 ≤ c
-  unfolding Lands
-  lands-west e l = rw e at l
-
 module _ (columns rows r c : ℕ) (p : r < rows) (q : c < columns) where
   pub stays-lands : (h : Heading) → columns ≤ 64 → rows ≤ 64 → stays columns rows h r c ≡ true → Lands h r c
-  unfolding stays Lands
-  stays-lands E few-columns few-rows e = omega arith
-  stays-lands N few-columns few-rows e = omega arith
-  stays-lands S few-columns few-rows e = leb-true 1 r e
-  stays-lands W few-columns few-rows e = leb-true 1 c e
+  unfolding stays
+  stays-lands h few-columns few-rows s =
+      record {
+        row = omega arith;
+        column = omega arith;
+        south = λ e. leb-true 1 r (rw e at s);
+        west = λ e. leb-true 1 c (rw e at s);
+      }
 
   -- and the place after it is on the mesh
   pub stays-on : (h : Heading) → stays columns rows h r c ≡ true → (rowAfter h r < rows) × (columnAfter h c < columns)

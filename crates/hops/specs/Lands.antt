@@ -1,11 +1,12 @@
 -- What moving asks of a hop. Assumes nothing.
+use mathlib.Core.Path.{_≡_}
 use Prim.Native.Nat.{ℕ, _≤_, _<_}
 use Rattle.mesh.specs.declared.Heading.{Heading}
-use Rattle.mesh.specs.declared.Heading.the-variants.{East as E, North as N, South as S, West as W}
+use Rattle.mesh.specs.declared.Heading.the-variants.{South, West}
 
 -- the numbers of the next place can be had
-unfoldable pub Lands : Heading → ℕ → ℕ → Type 0
-Lands E r c = c < 64
-Lands N r c = r < 64
-Lands S r c = 1 ≤ r
-Lands W r c = 1 ≤ c
+pub record Lands (h : Heading) (r c : ℕ) : Type 0 where
+  pub row : r < 64
+  pub column : c < 64
+  pub south : h ≡ South → 1 ≤ r
+  pub west : h ≡ West → 1 ≤ c

@@ -1,9 +1,10 @@
 // A packet's hop: whether it is lawful, and the packet after it.
 ghost use mathlib.Core.Path.{_≡_};
-ghost use Prim.Native.Nat.{_<_};
+ghost use Prim.Native.Nat.{_≤_, _<_};
+ghost use Rattle.mesh.specs.declared.Heading.the-variants.{South, West};
 ghost use Rattle.mesh.specs.Mesh.{mesh, rowAfter, columnAfter};
 ghost use Rattle.mesh.specs.Walk.{stays};
-ghost use Rattle.mesh.specs.Packets.{place, isThere, movedPacket};
+ghost use Rattle.mesh.specs.Packets.{isThere, movedPacket};
 ghost use Rattle.maps.specs.Sized.{Sized};
 ghost use Rattle.hops.specs.Lands.{Lands};
 ghost use Rattle.hops.specs.Tests.{Tests};
@@ -32,32 +33,29 @@ fn stays(columns: u32, rows: u32, r: Row, c: Column, h: Heading) -> bool
     }
 }
 
-// The place after a hop.
-fn place_after(p: Place, h: Heading) -> Place
-    requires { ⌜ Lands h (p .row .0) (p .column .0) ⌝ }
-    ensures { λ x. ⌜ x ≡ place (rowAfter h (p .row .0)) (columnAfter h (p .column .0)) ⌝ }
+// The row after a hop.
+fn row_after(r: Row, h: Heading) -> Row
+    requires { ⌜ (r .0 < 64) × (h ≡ South → 1 ≤ r .0) ⌝ }
+    ensures { λ x. ⌜ x .0 ≡ rowAfter h (r .0) ⌝ }
 {
-    let r = p.row;
-    let c = p.column;
-    let row = r.0;
-    let column = c.0;
     match h {
-        Heading::East => return Place {
-            row: r,
-            column: Column(column + 1),
-        },
-        Heading::North => return Place {
-            row: Row(row + 1),
-            column: c,
-        },
-        Heading::South => return Place {
-            row: Row(row - 1),
-            column: c,
-        },
-        Heading::West => return Place {
-            row: r,
-            column: Column(column - 1),
-        },
+        Heading::East => return r,
+        Heading::North => return Row(r.0 + 1),
+        Heading::South => return Row(r.0 - 1),
+        Heading::West => return r,
+    }
+}
+
+// The column after a hop.
+fn column_after(c: Column, h: Heading) -> Column
+    requires { ⌜ (c .0 < 64) × (h ≡ West → 1 ≤ c .0) ⌝ }
+    ensures { λ x. ⌜ x .0 ≡ columnAfter h (c .0) ⌝ }
+{
+    match h {
+        Heading::East => return Column(c.0 + 1),
+        Heading::North => return c,
+        Heading::South => return c,
+        Heading::West => return Column(c.0 - 1),
     }
 }
 
@@ -66,8 +64,9 @@ pub fn moved(p: Packet, h: Heading) -> Packet
     requires { ⌜ Lands h (p .place .row .0) (p .place .column .0) ⌝ }
     ensures { λ x. ⌜ x ≡ movedPacket h p ⌝ }
 {
-    let from = p.place;
-    let place = place_after(from, h);
+    let row = row_after(p.place.row, h);
+    let column = column_after(p.place.column, h);
+    let place = Place { row, column };
     let last = Last::Made(h);
     let destination = p.destination;
     Packet {

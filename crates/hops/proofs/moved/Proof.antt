@@ -1,15 +1,17 @@
--- The place, the last hop, and the destination as it was. Assumes nothing.
-use borrow.Author.Needs.{needs}
+-- The row and the column. Assumes nothing.
 use Rattle.mesh.specs.Walk.{moved}
 use Rattle.hops.proofs.moved.Statement.{statement}
 use Rattle.hops.proofs.moved.Tie as tie
 
-place-after-requires : tie.Need-place-after-requires
-place-after-requires c κs = search needs
+row-after-requires : tie.Need-row-after-requires
+row-after-requires c κs = (c .pre .row, c .pre .south)
+
+column-after-requires : tie.Need-column-after-requires
+column-after-requires c κs = (c .before .pre .column, c .before .pre .west)
 
 returns : tie.Need-returns
 unfolding moved
-returns c = rw (c .before .place-after .ensures)
+returns c = rw (← c .before .before .row-after .ensures, ← c .before .column-after .ensures)
 
 pub moved-spec : {M : Type 1} → statement M
-moved-spec = tie.close (tie.spec place-after-requires returns)
+moved-spec = tie.close (tie.spec row-after-requires column-after-requires returns)
