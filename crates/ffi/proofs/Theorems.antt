@@ -7,36 +7,32 @@ use lib.ListN.{length}
 use Rattle.mesh.specs.declared.Place.{Place}
 use Rattle.mesh.specs.Mesh.{mesh}
 use Rattle.mesh.specs.Blocks.{marked, blocks}
-use Rattle.mesh.specs.Refusals.{mapRefusals}
 use Rattle.mesh.specs.Operations.{markRefusal, routeRefusal, hopsOf}
 use Rattle.mesh.proofs.Index.{few-nodes}
-use Rattle.mesh.proofs.Refusals.{none-before, refused-first, others-next, accepted}
+use Rattle.mesh.proofs.Refusals.{map-clear-before, others-next, accepted}
 use Rattle.block_theory.proofs.Marking.{marked-length}
 use Rattle.block_theory.proofs.Listed.{blocks-within}
 use Rattle.block_theory.proofs.Theorems.{obstacles}
 use Rattle.maps.specs.Sized.{Sized}
 use Rattle.route.specs.Marked.{requestRefusals}
-use Rattle.route.proofs.Requests.{request-clear, request}
+use Rattle.route.proofs.Requests.{request-clear-before, request}
 use Rattle.route.proofs.Routed.{rest-hops, starts}
 
 module _ (columns rows : ℕ) (map : List ℕ) where
-  map-clear : (others : ℕ) → mapRefusals columns rows map others ≡ 0 → mapRefusals columns rows map 0 ≡ 0
-  map-clear others h = none-before _ _ (λ k e. refused-first columns rows map others e) h
-
   pub blocks-few : (out : List ℕ) → markRefusal columns rows map out ≡ 0 → length (blocks (marked (mesh columns rows map))) < 65536
   unfolding markRefusal
   blocks-few out h =
-      let a = accepted columns rows map (map-clear _ h) in
+      let a = accepted columns rows map (map-clear-before columns rows map _ h) in
       omega (arith, blocks-within (marked (mesh columns rows map)), few-nodes columns rows (a .few-columns) (a .few-rows))
 
   pub hops-few : (s d : Place) (out : List ℕ) → routeRefusal columns rows map s d out ≡ 0 → length (hopsOf (marked (mesh columns rows map)) s d) < 65536
   unfolding routeRefusal requestRefusals
   hops-few s d out h =
-      let clear = map-clear _ h in
+      let clear = map-clear-before columns rows map _ h in
       let w = marked (mesh columns rows map) in
       let a = accepted columns rows map clear in
       let fits : Sized columns rows (w .map) =
       record { few-columns = a .few-columns; few-rows = a .few-rows; size = marked-length (mesh columns rows map) ∙ a .size } in
-      let q = request w s d (request-clear w s d _ (sym (others-next columns rows map _ clear) ∙ h)) in
+      let q = request w s d (request-clear-before w s d _ (sym (others-next columns rows map _ clear) ∙ h)) in
       let short = starts columns rows (w .map) s d fits (obstacles a) q .leads .enough in
       omega (arith, rw (rest-hops columns rows (w .map) s d fits (obstacles a) q) at short)

@@ -22,7 +22,7 @@ use Rattle.mesh.specs.Walk.{At, stays, moved, arrived}
 use Rattle.mesh.specs.Packets.{at, tripOf, isThere}
 use Rattle.mesh.specs.Judging.{faultNumber, testedNumber, named, letterFault, follow, passed, failed, unless, judge}
 use Rattle.mesh.proofs.Bools.{value}
-use Rattle.mesh.proofs.Refusals.{fault-some}
+use Rattle.mesh.proofs.Numbers.{fault-some}
 use Rattle.hops.specs.Tests.{Tests}
 use Rattle.hops.proofs.Landing.{stays-on}
 

@@ -10,7 +10,8 @@ use Rattle.mesh.specs.Blocks.{marked}
 use Rattle.mesh.specs.Walk.{tripOn, fresh}
 use Rattle.mesh.specs.Refusals.{number, mapRefusals, placeRefusals}
 use Rattle.mesh.specs.Judging.{Verdict, unless, judge, judgedVerdict, judgement}
-use Rattle.mesh.proofs.Refusals.{number-some, others-next}
+use Rattle.mesh.proofs.Numbers.{number-some}
+use Rattle.mesh.proofs.Refusals.{others-next}
 use Rattle.judge.specs.Marked.{judgementOn}
 
 unless-refused : (why : Refusal) (rest : Verdict) → judgedVerdict (Refused why) ≡ unless (number why) 0 rest

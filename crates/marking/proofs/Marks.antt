@@ -17,7 +17,8 @@ use Rattle.mesh.specs.Mesh.{mesh}
 use Rattle.mesh.specs.Blocks.{bad, marked, blocks}
 use Rattle.mesh.specs.Refusals.{number, checkedNumber, mapRefusals}
 use Rattle.mesh.specs.Operations.{answer, written, markedAnswer, markRefusal, MarksBlocks}
-use Rattle.mesh.proofs.Refusals.{number-some, accepted, map-clear, others-next}
+use Rattle.mesh.proofs.Numbers.{number-some}
+use Rattle.mesh.proofs.Refusals.{accepted, map-clear, others-next}
 use Rattle.mesh.proofs.Index.{few-nodes}
 use Rattle.mesh.proofs.Answers.{answer-refused, written-refused}
 use Rattle.block_theory.specs.Obstacles.{Obstacles}

@@ -5,7 +5,7 @@ use Prim.Native.Nat.{ℕ}
 use Rattle.mesh.specs.declared.Refusal.{Refusal}
 use Rattle.mesh.specs.Refusals.{number}
 use Rattle.mesh.specs.Operations.{refused, answer, written}
-use Rattle.mesh.proofs.Refusals.{number-some}
+use Rattle.mesh.proofs.Numbers.{number-some}
 
 pub answer-refused : (why : Refusal) (n : ℕ) → answer (number why) n ≡ refused (number why)
 unfolding answer

@@ -2,6 +2,8 @@ pub mod Bools
 pub mod Index
 pub mod Turns
 pub mod Some
+pub mod Numbers
+pub mod Firsts
 pub mod Refusals
 pub mod Answers
 pub mod Lists

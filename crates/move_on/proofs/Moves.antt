@@ -23,7 +23,8 @@ use Rattle.mesh.specs.Refusals.{number, mapRefusals, placeRefusals, onARing}
 use Rattle.mesh.specs.Judging.{faultNumber, testedNumber}
 use Rattle.mesh.specs.Moving.{movedTold, moveRefusal, hopFrom, mayHop, told, recordAfter, MovesOn}
 use Rattle.mesh.proofs.Bools.{value}
-use Rattle.mesh.proofs.Refusals.{number-some, fault-some, others-next}
+use Rattle.mesh.proofs.Numbers.{number-some, fault-some}
+use Rattle.mesh.proofs.Refusals.{others-next}
 use Rattle.judge_theory.proofs.Theorems.{letter-lawful}
 use Rattle.places.proofs.Placed.{places-next}
 use Rattle.hops.specs.Tests.{Tests}

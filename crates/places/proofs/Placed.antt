@@ -1,8 +1,8 @@
 -- What it says that neither refusal 6 nor 7 applies, and how they stand before an operation's others. Assumes nothing.
-use mathlib.Core.Path.{_≡_, refl, sym, _∙_}
-use mathlib.Core.Bool.{Bool, true, false, cond, _||_}
-use mathlib.Core.List.{List}
-use Prim.Native.Nat.{ℕ, suc, _<_}
+use mathlib.Core.Path.{_≡_, refl}
+use mathlib.Core.Bool.{Bool, true, false, _||_}
+use mathlib.Core.List.{List, [], _∷_}
+use Prim.Native.Nat.{ℕ, _<_}
 use native.Mathlib.Omega.{arith}
 use borrow.Author.Tests.{ltb-true, not-false}
 use lib.Dec.{ltb}
@@ -14,7 +14,7 @@ use Rattle.mesh.specs.Mesh.{Mesh, mesh, onMesh}
 use Rattle.mesh.specs.Blocks.{bad}
 use Rattle.mesh.specs.Refusals.{number, checkedNumber, offMesh, inBlock, placeRefusals}
 use Rattle.mesh.proofs.Bools.{and-both, or-none}
-use Rattle.mesh.proofs.Refusals.{number-some}
+use Rattle.mesh.proofs.Firsts.{first, None, clear-none, clear-next, told-refused, told-clear}
 use Rattle.maps.specs.Sized.{Sized}
 
 -- a source and a destination that refusals 6 and 7 let pass
@@ -54,52 +54,31 @@ module _ (w : Mesh) (p : Place) where
   unfolding inBlock
   free-not-in e = e
 
--- the two tests in a row
-first : Bool → Bool → ℕ → ℕ
-first a b n = cond a 6 (cond b 7 n)
-
-first-some : (a b : Bool) (k n : ℕ) → first a b 0 ≡ suc k → first a b n ≡ suc k
-unfolding first
-first-some true b k n h = h
-first-some false true k n h = h
-first-some false false k n h = absurd (omega arith)
-
-first-none : (a b : Bool) → first a b 0 ≡ 0 → (a ≡ false) × (b ≡ false)
-unfolding first
-first-none true b h = absurd (omega arith)
-first-none false true h = absurd (omega arith)
-first-none false false h = (refl, refl)
-
 module _ (w : Mesh) (s d : Place) where
-  none-of : placeRefusals w s d 0 ≡ 0 → (offMesh w s || offMesh w d ≡ false) × (inBlock w s || inBlock w d ≡ false)
-  unfolding placeRefusals first
-  none-of h = first-none _ _ h
+  -- refusals 6 and 7 as tests in a row
+  tests : List Bool
+  tests = (offMesh w s || offMesh w d) ∷ (inBlock w s || inBlock w d) ∷ []
 
-  refused-first : {k : ℕ} (others : ℕ) → placeRefusals w s d 0 ≡ suc k → placeRefusals w s d others ≡ suc k
-  unfolding placeRefusals first
-  refused-first {k} others h = first-some (offMesh w s || offMesh w d) (inBlock w s || inBlock w d) k others h
+  in-a-row : (others : ℕ) → placeRefusals w s d others ≡ first 5 tests others
+  unfolding placeRefusals first tests
+  in-a-row others = refl
 
   pub places-next : placeRefusals w s d 0 ≡ 0 → (others : ℕ) → placeRefusals w s d others ≡ others
-  unfolding placeRefusals
-  places-next h others = let (a, b) = none-of h in rw (a, b)
+  places-next = clear-next 5 tests in-a-row
 
   pub placed : placeRefusals w s d 0 ≡ 0 → Placed w s d
-  unfolding inBlock
+  unfolding inBlock None tests
   placed h =
-      let (a, b) = none-of h in
+      let (a, (b, _)) = clear-none 5 tests in-a-row h in
       let (p, q) = or-none (offMesh w s) (offMesh w d) a in
       let (x, y) = or-none (inBlock w s) (inBlock w d) b in
       record { source-on = not-off w s p; destination-on = not-off w d q; source-free = x; destination-free = y }
 
   pub places-none : {x : Checked} → x ≡ Clear → checkedNumber x ≡ placeRefusals w s d 0 → placeRefusals w s d 0 ≡ 0
-  unfolding checkedNumber
-  places-none e h = sym h ∙ rw e
+  places-none = told-clear 5 tests in-a-row
 
   pub places-clear : {x : Checked} → x ≡ Clear → checkedNumber x ≡ placeRefusals w s d 0 → Placed w s d
   places-clear e h = placed (places-none e h)
 
   pub places-refused : {x : Checked} {why : Refusal} (others : ℕ) → x ≡ Refused why → checkedNumber x ≡ placeRefusals w s d 0 → placeRefusals w s d others ≡ number why
-  unfolding checkedNumber
-  places-refused {x} {why} others e h =
-      let first : placeRefusals w s d 0 ≡ number why = sym h ∙ rw e in
-      refused-first others (first ∙ number-some why) ∙ sym (number-some why)
+  places-refused = told-refused 5 tests in-a-row

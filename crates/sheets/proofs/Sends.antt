@@ -19,7 +19,8 @@ use Rattle.mesh.specs.Operations.{refused, returned, answer, routedAnswer, writ
 use Rattle.mesh.proofs.Bools.{true-false}
 use Rattle.mesh.proofs.Index.{few-nodes}
 use Rattle.mesh.proofs.Lists.{letters-length}
-use Rattle.mesh.proofs.Refusals.{number-some, accepted}
+use Rattle.mesh.proofs.Numbers.{number-some}
+use Rattle.mesh.proofs.Refusals.{accepted}
 use Rattle.block_theory.specs.Obstacles.{Obstacles}
 use Rattle.block_theory.proofs.Marking.{marked-length}
 use Rattle.block_theory.proofs.Listed.{blocks-within}

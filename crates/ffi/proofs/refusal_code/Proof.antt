@@ -1,7 +1,7 @@
 -- 65,536 plus the number of a refusal. Assumes nothing.
 use borrow.Author.Needs.{needs}
 use native.Mathlib.Omega.{arith}
-use Rattle.mesh.proofs.Refusals.{number-few}
+use Rattle.mesh.proofs.Numbers.{number-few}
 use Rattle.ffi.proofs.refusal_code.Statement.{statement}
 use Rattle.ffi.proofs.refusal_code.Tie as tie
 

@@ -3,7 +3,7 @@ use borrow.Author.Needs.{needs}
 use native.Mathlib.Omega.{arith}
 use mathlib.Core.Path.{sym}
 use lib.Seq.{length-take-le}
-use Rattle.mesh.proofs.Refusals.{number-few}
+use Rattle.mesh.proofs.Numbers.{number-few}
 use Rattle.sheets.proofs.Sends.{sent-within, sent-fits, sent, not-sent}
 use Rattle.sheets.proofs.answer_send.Statement.{statement}
 use Rattle.sheets.proofs.answer_send.Tie as tie
