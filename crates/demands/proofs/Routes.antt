@@ -1,7 +1,7 @@
 -- What Route answers and writes, by whether one of refusals 1 to 9 applies to the request. Assumes nothing.
-use mathlib.Core.Path.{_≡_, sym, _∙_}
-use mathlib.Core.Bool.{Bool, true, false, cond, _||_}
-use mathlib.Core.List.{List, _++_}
+use mathlib.Core.Path.{_≡_, refl, sym, _∙_}
+use mathlib.Core.Bool.{Bool, cond, _||_}
+use mathlib.Core.List.{List, [], _∷_, _++_}
 use Prim.Native.Nat.{ℕ, suc, _≤_, _<_}
 use native.Mathlib.Decide.{decLe}
 use native.Mathlib.Omega.{arith}
@@ -13,9 +13,11 @@ use Rattle.mesh.specs.declared.Place.{Place}
 use Rattle.mesh.specs.declared.Routed.{Routed}
 use Rattle.mesh.specs.Mesh.{mesh, letters}
 use Rattle.mesh.specs.Blocks.{marked}
-use Rattle.mesh.specs.Refusals.{badSize, badLength, badByte, misplaced, offMesh, inBlock, onARing, unserved, mapRefusals, placeRefusals}
+use Rattle.mesh.specs.Refusals.{badSize, badLength, badByte, misplaced, offMesh, inBlock, onARing, unserved, mapRefusals, placeRefusals, requestRefusals}
 use Rattle.mesh.specs.Operations.{Answer, returned, answer, written, routedAnswer, routeRefusal, Routes}
+use Rattle.mesh.proofs.Firsts.{first, refused-first}
 use Rattle.mesh.proofs.Refusals.{others-next}
+use Rattle.mesh.proofs.Requests.{request-next}
 use Rattle.mesh.proofs.Lists.{letters-length}
 use Rattle.demands.specs.Demand3.{hops, requestRefusal, RouteGiven}
 use Rattle.demands.proofs.Requests.{Clear}
@@ -29,10 +31,10 @@ module _ {columns rows : ℕ} {map : List ℕ} {s d : Place} (clear : Clear colu
   hs = hops columns rows map s d
 
   only-room : routeRefusal columns rows map s d out ≡ cond (ltb (length out) (length hs)) 10 0
-  unfolding routeRefusal placeRefusals
+  unfolding routeRefusal
   only-room =
-      let p = clear .passed in
-      rw (others-next columns rows map _ (p .map-passes), p .source-on, p .destination-on, p .source-free, p .destination-free, p .off-rings, clear .served)
+      others-next columns rows map _ (clear .passed .map-passes) ∙
+      request-next (marked (mesh columns rows map)) s d (clear .none) _
 
   short-ten : length out < length hs → routeRefusal columns rows map s d out ≡ 10
   short-ten h = only-room ∙ rw (lt-ltb _ _ h)
@@ -70,25 +72,21 @@ module _ {columns rows : ℕ} {map : List ℕ} {s d : Place} (clear : Clear colu
 
 -- One applies: it stands before 10.
 
--- a test before both of two numbers
-after-test : (b : Bool) (j n m : ℕ) {k : ℕ} → (n ≡ suc k → m ≡ suc k) → cond b j n ≡ suc k → cond b j m ≡ suc k
-after-test true j n m f h = h
-after-test false j n m f h = f h
-
 module _ (columns rows : ℕ) (map : List ℕ) (s d : Place) (out : List ℕ) {k : ℕ} (e : requestRefusal columns rows map s d ≡ suc k) where
-  pub refused-before : routeRefusal columns rows map s d out ≡ suc k
-  unfolding requestRefusal routeRefusal mapRefusals placeRefusals
-  refused-before =
+  -- refusals 1 to 9 as tests in a row
+  tests : List Bool
+  tests =
       let w = marked (mesh columns rows map) in
-      after-test (badSize columns) _ _ _
-      (after-test (badSize rows) _ _ _
-      (after-test (badLength columns rows map) _ _ _
-      (after-test (badByte map) _ _ _
-      (after-test (misplaced columns rows map) _ _ _
-      (after-test (offMesh w s || offMesh w d) _ _ _
-      (after-test (inBlock w s || inBlock w d) _ _ _
-      (after-test (onARing w d) _ _ _ (after-test (unserved w s d) _ _ _ (λ h. absurd (omega arith))))))))))
-      e
+      badSize columns ∷ badSize rows ∷ badLength columns rows map ∷ badByte map ∷ misplaced columns rows map ∷
+      (offMesh w s || offMesh w d) ∷ (inBlock w s || inBlock w d) ∷ onARing w d ∷ unserved w s d ∷ []
+
+  in-a-row : (others : ℕ) → mapRefusals columns rows map (requestRefusals (marked (mesh columns rows map)) s d others) ≡ first 0 tests others
+  unfolding mapRefusals requestRefusals placeRefusals first tests
+  in-a-row others = refl
+
+  pub refused-before : routeRefusal columns rows map s d out ≡ suc k
+  unfolding requestRefusal routeRefusal
+  refused-before = refused-first 0 tests in-a-row _ e
 
   pub refused-given : {r : Routed} {after : List ℕ} → Routes columns rows map s d out r after → (routedAnswer r ≡ Answer.refused (suc k)) × (after ≡ out)
   unfolding answer written

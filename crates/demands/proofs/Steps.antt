@@ -52,7 +52,7 @@ module _ {columns rows : ℕ} {map : List ℕ} {s d : Place} (passed : Passed co
   none-applies : moveRefusal columns rows map (packetAt a d) ≡ 0
   unfolding moveRefusal placeRefusals offMesh inBlock onMesh
   none-applies =
-      rw (others-next columns rows map _ (passed .map-passes), passed .destination-on, passed .destination-free, passed .off-rings, lt-ltb _ _ (free .row), lt-ltb _ _ (free .column), free .free)
+      rw (others-next columns rows map _ (passed .map-passes), passed .placed .destination-on, passed .placed .destination-free, passed .off-rings, lt-ltb _ _ (free .row), lt-ltb _ _ (free .column), free .free)
 
   module _ {m : Moved} {after : Packet} (keeps : MovesOn columns rows map (packetAt a d) m after) where
     pub hops-answer : {h : Heading} → Hops (tripTo columns rows map d) a h → movedTold m ≡ hopped (letter h)

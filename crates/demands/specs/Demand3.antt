@@ -16,7 +16,7 @@ use Rattle.mesh.specs.Mesh.{mesh, letter, letters}
 use Rattle.mesh.specs.Blocks.{sameList, marked, blocks}
 use Rattle.mesh.specs.Hops.{Trip}
 use Rattle.mesh.specs.Walk.{At, moved, arrived, lawfulRoute, hopAt, walk, distance, detours, bound}
-use Rattle.mesh.specs.Refusals.{onARing, unserved, mapRefusals, placeRefusals}
+use Rattle.mesh.specs.Refusals.{onARing, mapRefusals, placeRefusals, requestRefusals}
 use Rattle.mesh.specs.Operations.{Answer, returned, routedAnswer, hopsOf, Routes}
 use Rattle.mesh.specs.Packets.{packetAt}
 use Rattle.mesh.specs.Moving.{Told, hopped, there, movedTold, MovesOn}
@@ -80,7 +80,7 @@ module _ (columns rows : ℕ) (map : List ℕ) where
     unfoldable pub requestRefusal : ℕ
     requestRefusal =
         let w = marked (mesh columns rows map) in
-        mapRefusals columns rows map (placeRefusals w s d (cond (onARing w d) 8 (cond (unserved w s d) 9 0)))
+        mapRefusals columns rows map (requestRefusals w s d 0)
 
     -- its hops
     abbrev pub hops : List Heading

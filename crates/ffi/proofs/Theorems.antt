@@ -14,8 +14,7 @@ use Rattle.block_theory.proofs.Marking.{marked-length}
 use Rattle.block_theory.proofs.Listed.{blocks-within}
 use Rattle.block_theory.proofs.Theorems.{obstacles}
 use Rattle.maps.specs.Sized.{Sized}
-use Rattle.route.specs.Marked.{requestRefusals}
-use Rattle.route.proofs.Requests.{request-clear-before, request}
+use Rattle.mesh.proofs.Requests.{request-clear-before, request}
 use Rattle.route.proofs.Routed.{rest-hops, starts}
 
 module _ (columns rows : ℕ) (map : List ℕ) where
@@ -26,7 +25,7 @@ module _ (columns rows : ℕ) (map : List ℕ) where
       omega (arith, blocks-within (marked (mesh columns rows map)), few-nodes columns rows (a .few-columns) (a .few-rows))
 
   pub hops-few : (s d : Place) (out : List ℕ) → routeRefusal columns rows map s d out ≡ 0 → length (hopsOf (marked (mesh columns rows map)) s d) < 65536
-  unfolding routeRefusal requestRefusals
+  unfolding routeRefusal
   hops-few s d out h =
       let clear = map-clear-before columns rows map _ h in
       let w = marked (mesh columns rows map) in

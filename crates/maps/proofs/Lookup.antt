@@ -11,8 +11,10 @@ use Rattle.mesh.specs.declared.Heading.{Heading}
 use Rattle.mesh.specs.declared.Heading.the-variants.{East as E, North as N, South as S, West as W}
 use Rattle.mesh.specs.Mesh.{mesh, onMesh}
 use Rattle.mesh.specs.Blocks.{isBad, bad, ahead, allowed}
-use Rattle.mesh.specs.Refusals.{badSize, badLength, misplacedAt}
+use Rattle.mesh.specs.declared.Place.{Place}
+use Rattle.mesh.specs.Refusals.{badSize, badLength, misplacedAt, offMesh}
 use Rattle.mesh.proofs.Refusals.{good-size, good-length}
+use Rattle.mesh.proofs.Requests.{on-row, on-column}
 use Rattle.mesh.proofs.Index.{index-within, few-nodes, place-of}
 use Rattle.maps.specs.Sized.{Sized}
 
@@ -94,6 +96,10 @@ module _ (columns rows i x : ℕ) where
   pub fault-placed : {a : Bool} → (x ≡ 0 → ⊥) → a ≡ allowed columns rows (i / columns) (i % columns) → not a ≡ misplacedAt columns rows i x
   unfolding misplacedAt
   fault-placed h e = rw (← isBad-test x, ne-eqb x 0 h, e)
+
+pub on-small : (columns rows : ℕ) (map : List ℕ) (p : Place) → Sized columns rows map → offMesh (mesh columns rows map) p ≡ false → (p .row .0 < 64) × (p .column .0 < 64)
+on-small columns rows map p s on =
+    (omega (arith, on-row (mesh columns rows map) p on, s .few-rows), omega (arith, on-column (mesh columns rows map) p on, s .few-columns))
 
 -- what the first three refusals leave is what the last one asks
 pub sized : (columns rows : ℕ) (map : List ℕ) → badSize columns ≡ false → badSize rows ≡ false → badLength columns rows map ≡ false → Sized columns rows map

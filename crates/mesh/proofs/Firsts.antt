@@ -37,6 +37,12 @@ unfolding first None
 first-next k [] n h = refl
 first-next k (b ∷ bs) n (e, h) = rw e (first-next (suc k) bs n h)
 
+first-same : (k : ℕ) (bs : List Bool) (n : ℕ) → (first k bs 0 ≡ 0 → n ≡ 0) → first k bs n ≡ first k bs 0
+unfolding first
+first-same k [] n h = h refl
+first-same k (true ∷ bs) n h = refl
+first-same k (false ∷ bs) n h = first-same (suc k) bs n h
+
 -- where all together come to none, so do the first
 none-before : (a all : ℕ) → ((j : ℕ) → a ≡ suc j → all ≡ suc j) → all ≡ 0 → a ≡ 0
 none-before zero all h e = refl
@@ -44,7 +50,7 @@ none-before (suc j) all h e = absurd (omega (arith, h j refl))
 
 -- refusals by such tests, and after them the others of an operation
 module _ (k : ℕ) (bs : List Bool) {R : ℕ → ℕ} (is : (n : ℕ) → R n ≡ first k bs n) where
-  refused-first : {j : ℕ} (others : ℕ) → R 0 ≡ suc j → R others ≡ suc j
+  pub refused-first : {j : ℕ} (others : ℕ) → R 0 ≡ suc j → R others ≡ suc j
   refused-first {j} others h = is others ∙ first-some k bs j others (sym (is 0) ∙ h)
 
   pub clear-before : (others : ℕ) → R others ≡ 0 → R 0 ≡ 0
@@ -55,6 +61,9 @@ module _ (k : ℕ) (bs : List Bool) {R : ℕ → ℕ} (is : (n : ℕ) → R n �
 
   pub clear-next : R 0 ≡ 0 → (others : ℕ) → R others ≡ others
   clear-next h others = is others ∙ first-next k bs others (clear-none h)
+
+  pub clear-same : (others : ℕ) → (R 0 ≡ 0 → others ≡ 0) → R others ≡ R 0
+  clear-same others h = is others ∙ first-same k bs others (λ e. h (is 0 ∙ e)) ∙ sym (is 0)
 
   -- what a check has told
   module _ {x : Checked} where

@@ -5,5 +5,6 @@ pub mod Some
 pub mod Numbers
 pub mod Firsts
 pub mod Refusals
+pub mod Requests
 pub mod Answers
 pub mod Lists

@@ -13,7 +13,7 @@ use Rattle.mesh.specs.declared.Place.{Place}
 use Rattle.mesh.specs.Mesh.{Mesh, mesh, Heading, letters}
 use Rattle.mesh.specs.Blocks.{marked, blocks}
 use Rattle.mesh.specs.Walk.{tripOn, fresh, walk, bound}
-use Rattle.mesh.specs.Refusals.{number, mapRefusals, placeRefusals, onARing, unserved}
+use Rattle.mesh.specs.Refusals.{number, mapRefusals, requestRefusals}
 
 -- an answer in the paper's terms: the number of a refusal, or what is returned
 pub data Answer : Type 0 where
@@ -62,9 +62,7 @@ hopsOf w s d =
 unfoldable pub routeRefusal : ℕ → ℕ → List ℕ → Place → Place → List ℕ → ℕ
 routeRefusal columns rows map s d out =
     let w = marked (mesh columns rows map) in
-    mapRefusals columns rows map
-    (placeRefusals w s d
-    (cond (onARing w d) 8 (cond (unserved w s d) 9 (cond (ltb (length out) (length (hopsOf w s d))) 10 0))))
+    mapRefusals columns rows map (requestRefusals w s d (cond (ltb (length out) (length (hopsOf w s d))) 10 0))
 
 -- it returns the number of hops, and writes their letters
 pub record Routes (columns rows : ℕ) (map : List ℕ) (s d : Place) (out : List ℕ) (r : Routed) (after : List ℕ) : Type 0 where

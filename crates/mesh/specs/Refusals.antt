@@ -83,3 +83,7 @@ mapRefusals columns rows map others =
 unfoldable pub placeRefusals : Mesh → Place → Place → ℕ → ℕ
 placeRefusals w s d others =
     cond (offMesh w s || offMesh w d) 6 (cond (inBlock w s || inBlock w d) 7 others)
+
+-- refusals 6 to 9 of a route request, and after them the others
+unfoldable pub requestRefusals : Mesh → Place → Place → ℕ → ℕ
+requestRefusals w s d others = placeRefusals w s d (cond (onARing w d) 8 (cond (unserved w s d) 9 others))

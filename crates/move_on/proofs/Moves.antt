@@ -26,7 +26,7 @@ use Rattle.mesh.proofs.Bools.{value}
 use Rattle.mesh.proofs.Numbers.{number-some, fault-some}
 use Rattle.mesh.proofs.Refusals.{others-next}
 use Rattle.judge_theory.proofs.Theorems.{letter-lawful}
-use Rattle.places.proofs.Placed.{places-next}
+use Rattle.mesh.proofs.Requests.{places-next}
 use Rattle.hops.specs.Tests.{Tests}
 use Rattle.move_on.specs.Marked.{refusalOn, Moves}
 

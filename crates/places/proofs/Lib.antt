@@ -1,3 +1,2 @@
 pub mod Refused
 pub mod Rings
-pub mod Placed

@@ -12,7 +12,7 @@ use Rattle.mesh.specs.Refusals.{number, mapRefusals}
 use Rattle.mesh.specs.Operations.{routedAnswer, routeRefusal, Routes}
 use Rattle.mesh.proofs.Refusals.{others-next}
 use Rattle.mesh.proofs.Answers.{answer-refused, written-refused}
-use Rattle.route.specs.Marked.{requestRefusals, refusalOn, RoutesOn}
+use Rattle.route.specs.Marked.{refusalOn, RoutesOn}
 
 module _ (columns rows : ℕ) (map : List ℕ) where
   module _ (s d : Place) (out : List ℕ) where
@@ -22,7 +22,7 @@ module _ (columns rows : ℕ) (map : List ℕ) where
         record { answers = rw (e _) (sym (answer-refused why _)); writes = rw (e _) (sym (written-refused why _ _)) }
 
     pub marked-routed : {m : List ℕ} {r : Routed} {after : List ℕ} → mapRefusals columns rows map 0 ≡ 0 → m ≡ marked (mesh columns rows map) .map → RoutesOn (mesh columns rows m) s d out r after → Routes columns rows map s d out r after
-    unfolding routeRefusal refusalOn requestRefusals
+    unfolding routeRefusal refusalOn
     marked-routed clear e r =
         let r′ = rw e at r in
         let next : routeRefusal columns rows map s d out ≡ refusalOn (marked (mesh columns rows map)) s d out = others-next columns rows map _ clear in

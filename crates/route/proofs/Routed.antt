@@ -18,20 +18,19 @@ use Rattle.mesh.specs.declared.Place.{Place}
 use Rattle.mesh.specs.Mesh.{Mesh, mesh, letters}
 use Rattle.mesh.specs.Blocks.{bad, blocks}
 use Rattle.mesh.specs.Walk.{tripOn, distance, bound}
-use Rattle.mesh.specs.Refusals.{number}
+use Rattle.mesh.specs.Refusals.{number, requestRefusals}
 use Rattle.mesh.specs.Operations.{routedAnswer, answer, written, hopsOf}
 use Rattle.mesh.proofs.Index.{few-nodes}
+use Rattle.mesh.proofs.Requests.{on-row, on-column, Request, request-next}
 use Rattle.mesh.proofs.Lists.{letters-length}
 use Rattle.mesh.proofs.Answers.{answer-refused, written-refused}
 use Rattle.block_theory.specs.Obstacles.{Obstacles}
 use Rattle.block_theory.proofs.Area.{detours-bounded}
 use Rattle.walk_theory.proofs.Theorems.{destination-course, source-served, request-arrives, same-walk}
 use Rattle.maps.specs.Sized.{Sized}
-use Rattle.places.proofs.Placed.{not-off, on-row, on-column}
 use Rattle.buffers.specs.Over.{over}
 use Rattle.route.specs.Following.{hopLimit, rest, Going}
-use Rattle.route.specs.Marked.{requestRefusals, refusalOn, RoutesOn}
-use Rattle.route.proofs.Requests.{Request, request-next}
+use Rattle.route.specs.Marked.{refusalOn, RoutesOn}
 use Rattle.buffers.proofs.Over.{over-all}
 
 abbrev pub start : Place → Place → Packet
@@ -47,12 +46,12 @@ module _ (columns rows : ℕ) (marks : List ℕ) (s d : Place) (sized : Sized co
   unfolding bound
   bound-few =
       let w = mesh columns rows marks in
-      let on-s = not-off w s (q .source-on) in
-      let on-d = not-off w d (q .destination-on) in
+      let on-s = q .placed .source-on in
+      let on-d = q .placed .destination-on in
       let few = few-nodes columns rows (sized .few-columns) (sized .few-rows) in
       let area : rows * columns ≤ 4096 = rw (mul-comm rows columns) few in
-      let r = distance-few (s .row .0) (d .row .0) (omega (arith, on-row w _ _ on-s, sized .few-rows)) (omega (arith, on-row w _ _ on-d, sized .few-rows)) in
-      let c = distance-few (s .column .0) (d .column .0) (omega (arith, on-column w _ _ on-s, sized .few-columns)) (omega (arith, on-column w _ _ on-d, sized .few-columns)) in
+      let r = distance-few (s .row .0) (d .row .0) (omega (arith, on-row w s on-s, sized .few-rows)) (omega (arith, on-row w d on-d, sized .few-rows)) in
+      let c = distance-few (s .column .0) (d .column .0) (omega (arith, on-column w s on-s, sized .few-columns)) (omega (arith, on-column w d on-d, sized .few-columns)) in
       omega (arith, detours-bounded o)
 
   -- the hops of the request, as the two modes follow them
@@ -60,18 +59,18 @@ module _ (columns rows : ℕ) (marks : List ℕ) (s d : Place) (sized : Sized co
   unfolding hopsOf
   rest-hops =
       let w = mesh columns rows marks in
-      same-walk (destination-course w d o (q .destination-on) (q .destination-free) (q .off-rings)) _ _
-      (source-served w s d (q .source-on) (q .source-free) (q .served)) hopLimit _ bound-few (omega arith)
+      same-walk (destination-course w d o (q .placed .destination-on) (q .placed .destination-free) (q .off-rings)) _ _
+      (source-served w s d (q .placed .source-on) (q .placed .source-free) (q .served)) hopLimit _ bound-few (omega arith)
 
   pub starts : Going columns rows marks (start s d) 0 hopLimit
   starts =
       let w = mesh columns rows marks in
-      let on = not-off w s (q .source-on) in
-      let arrives = request-arrives w s d o (q .source-on) (q .destination-on) (q .source-free) (q .destination-free) (q .off-rings) (q .served) in
+      let on = q .placed .source-on in
+      let arrives = request-arrives w s d o (q .placed .source-on) (q .placed .destination-on) (q .placed .source-free) (q .placed .destination-free) (q .off-rings) (q .served) in
       record {
         sized = sized;
-        row = on-row w _ _ on;
-        column = on-column w _ _ on;
+        row = on-row w s on;
+        column = on-column w s on;
         leads = record { lawfully = rw rest-hops (arrives .route); enough = rw rest-hops (omega (arith, arrives .hops, bound-few)) };
         few = omega arith;
       }

@@ -8,12 +8,8 @@ use lib.ListN.{length}
 use Rattle.mesh.specs.declared.Place.{Place}
 use Rattle.mesh.specs.declared.Routed.{Routed}
 use Rattle.mesh.specs.Mesh.{Mesh, letters}
-use Rattle.mesh.specs.Refusals.{placeRefusals, onARing, unserved}
+use Rattle.mesh.specs.Refusals.{requestRefusals}
 use Rattle.mesh.specs.Operations.{routedAnswer, answer, written, hopsOf}
-
--- refusals 6 to 9, and after them the others
-unfoldable pub requestRefusals : Mesh → Place → Place → ℕ → ℕ
-requestRefusals w s d others = placeRefusals w s d (cond (onARing w d) 8 (cond (unserved w s d) 9 others))
 
 -- refusals 6 to 10
 unfoldable pub refusalOn : Mesh → Place → Place → List ℕ → ℕ

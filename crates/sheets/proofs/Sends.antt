@@ -1,6 +1,6 @@
 -- The cases of a send: its answer, the marking made for the first one, and the line as a whole. Assumes nothing.
 use mathlib.Core.Path.{_≡_, refl, sym, ap, _∙_}
-use mathlib.Core.Bool.{Bool, true, false, cond, _||_}
+use mathlib.Core.Bool.{Bool, true, false, cond}
 use mathlib.Core.List.{List, _++_}
 use Prim.Native.Nat.{ℕ, zero, suc, _+_, _*_, _≤_, _<_}
 use native.Mathlib.Omega.{arith}
@@ -14,7 +14,7 @@ use Rattle.mesh.specs.declared.Routed.{Routed}
 use Rattle.mesh.specs.declared.Routed.the-variants.{Hops, Refused}
 use Rattle.mesh.specs.Mesh.{mesh, letters}
 use Rattle.mesh.specs.Blocks.{bad, marked, blocks}
-use Rattle.mesh.specs.Refusals.{number, offMesh, inBlock, onARing, unserved, misplaced, mapRefusals, placeRefusals}
+use Rattle.mesh.specs.Refusals.{number, misplaced, mapRefusals, requestRefusals}
 use Rattle.mesh.specs.Operations.{refused, returned, answer, routedAnswer, written, hopsOf}
 use Rattle.mesh.proofs.Bools.{true-false}
 use Rattle.mesh.proofs.Index.{few-nodes}
@@ -31,8 +31,8 @@ use Rattle.buffers.specs.Over.{Puts}
 use Rattle.buffers.proofs.Over.{over-length, puts-append}
 use Rattle.prints.specs.Prints.{line, noWord, lineWord, blocksWord, okLine}
 use Rattle.prints.proofs.Lines.{line-length}
-use Rattle.route.specs.Marked.{requestRefusals, refusalOn, RoutesOn}
-use Rattle.route.proofs.Requests.{request}
+use Rattle.route.specs.Marked.{refusalOn, RoutesOn}
+use Rattle.mesh.proofs.Requests.{request, request-same}
 use Rattle.route.proofs.Routed.{rest-hops, starts}
 use Rattle.sheets.specs.declared.Phase.{Phase}
 use Rattle.sheets.specs.declared.Phase.the-variants.{Start, Faults, Sends}
@@ -43,19 +43,6 @@ use Rattle.sheets.specs.Keeping.{mapOf, stateOf, MapReady, Marked, Ready
 use Rattle.sheets.proofs.Phases.{faults-begun, sends-begun}
 
 -- A send's answer.
-
--- the four tests in a row
-first : Bool → Bool → Bool → Bool → ℕ → ℕ
-first a b r u n = cond a 6 (cond b 7 (cond r 8 (cond u 9 n)))
-
--- what follows them counts only where none of them holds
-first-same : (a b r u : Bool) (n : ℕ) → (first a b r u 0 ≡ 0 → n ≡ 0) → first a b r u n ≡ first a b r u 0
-unfolding first
-first-same true b r u n h = refl
-first-same false true r u n h = refl
-first-same false false true u n h = refl
-first-same false false false true n h = refl
-first-same false false false false n h = h refl
 
 answer-hops : (k n m : ℕ) → returned n ≡ answer k m → (k ≡ 0) × (n ≡ m)
 unfolding answer
@@ -81,10 +68,8 @@ module _ (columns rows : ℕ) (marks : List ℕ) (s d : Place) (fits : Sized col
       ap (λ b. cond b 10 0) (le-ltb _ _ fits)
 
   same-refusal : refusalOn (mesh columns rows marks) s d out ≡ requestRefusals (mesh columns rows marks) s d 0
-  unfolding refusalOn requestRefusals placeRefusals first
-  same-refusal =
-      let w = mesh columns rows marks in
-      first-same (offMesh w s || offMesh w d) (inBlock w s || inBlock w d) (onARing w d) (unserved w s d) _ no-tenth
+  unfolding refusalOn
+  same-refusal = request-same (mesh columns rows marks) s d _ no-tenth
 
   module _ {r : Routed} {after : List ℕ} (told : RoutesOn (mesh columns rows marks) s d out r after) where
     told-answer : routedAnswer r ≡ answer (requestRefusals (mesh columns rows marks) s d 0) (length (hopsOf (mesh columns rows marks) s d))

@@ -8,10 +8,9 @@ use Rattle.mesh.specs.Blocks.{isBad, bad, ahead, upright, ruleA, ruleB, unsafe,
 use Rattle.mesh.specs.Turns.{turnsWest}
 use Rattle.mesh.specs.Hops.{blocked, side, toward, own, stopped, again, atDestination, inRow, leaving, across, nearing, otherRow, hop}
 use Rattle.mesh.specs.Walk.{moved, arrived, hopAt, walk, shutIn, distance, detours, bound}
-use Rattle.mesh.specs.Refusals.{badSize, some, misplacedAt, misplaced, offMesh, inBlock, onARing, unserved, placeRefusals}
+use Rattle.mesh.specs.Refusals.{badSize, some, misplacedAt, misplaced, offMesh, inBlock, onARing, unserved, placeRefusals, requestRefusals}
 use Rattle.mesh.specs.Operations.{hopsOf}
 use Rattle.mesh.specs.Cases.{bytes}
-use Rattle.route.specs.Marked.{requestRefusals}
 use Rattle.words.specs.Words.{isDigit, more, number, spaced, second, first, two, ended, begins, sizes, fault, sendTo, send, command}
 use Rattle.prints.specs.Prints.{digits, decimal, line, spacedLetters, okLine}
 use Rattle.sheets.specs.Sheet.{before, linesOf, meshLine, faultLine, answerOf, sendAnswer, blocksLine, isMisplaced, sendLine, commandStep, lineStep, atEnd, answers, sheet}

@@ -11,9 +11,8 @@ use Rattle.words.specs.declared.Command.the-variants.{Mesh, Fault, Send, Malfor
 use Rattle.mesh.specs.declared.Place.{Place}
 use Rattle.mesh.specs.Mesh.{Mesh as MeshOf, mesh, letters}
 use Rattle.mesh.specs.Blocks.{marked, blocks}
-use Rattle.mesh.specs.Refusals.{badSize, misplaced, offMesh}
+use Rattle.mesh.specs.Refusals.{badSize, misplaced, offMesh, requestRefusals}
 use Rattle.mesh.specs.Operations.{hopsOf}
-use Rattle.route.specs.Marked.{requestRefusals}
 use Rattle.words.specs.Words.{command}
 use Rattle.prints.specs.Prints.{line, blocksWord, noWord, lineWord, okLine}
 

@@ -3,7 +3,8 @@ use borrow.Author.Needs.{needs}
 use mathlib.Core.Path.{sym, ap, _∙_}
 use mathlib.Core.Bool.{cond}
 use Rattle.mesh.specs.Refusals.{number, checkedNumber}
-use Rattle.places.proofs.Placed.{places-clear, on-not-off, free-not-in, on-small}
+use Rattle.mesh.proofs.Requests.{placed, places-none}
+use Rattle.maps.proofs.Lookup.{on-small}
 use Rattle.route.proofs.Requests.{place-first, ring-next, served-last}
 use Rattle.route.proofs.check_request.Statement.{statement}
 use Rattle.route.proofs.check_request.Tie as tie
@@ -21,13 +22,13 @@ enum-told : tie.Need-enum-told
 enum-told c = search needs
 
 is-on-ring-requires : tie.Need-is-on-ring-requires
-is-on-ring-requires c κs = let p = places-clear _ _ _ (c .enum-told .given .1) (c .before .before .check-places .ensures) in (c .before .before .before .before .pre .0, c .before .before .before .before .pre .1, on-not-off _ _ (p .destination-on), free-not-in _ _ (p .destination-free))
+is-on-ring-requires c κs = let p = placed _ _ _ (places-none _ _ _ (c .enum-told .given .1) (c .before .before .check-places .ensures)) in (c .before .before .before .before .pre .0, c .before .before .before .before .pre .1, p .destination-on, p .destination-free)
 
 returns-2 : tie.Need-returns-2
 returns-2 c = ring-next _ _ _ (c .before .before .before .before .check-places .ensures) (c .before .before .enum-told .given .1) (sym (c .before .is-on-ring .ensures) ∙ c .if1 .taken)
 
 is-unserved-requires : tie.Need-is-unserved-requires
-is-unserved-requires c κs = let p = places-clear _ _ _ (c .before .before .enum-told .given .1) (c .before .before .before .before .check-places .ensures) in let f = on-small _ _ _ _ _ (c .before .before .before .before .before .before .pre .0) (p .source-on) in (c .before .before .before .before .before .before .pre .0, f .0, f .1)
+is-unserved-requires c κs = let p = placed _ _ _ (places-none _ _ _ (c .before .before .enum-told .given .1) (c .before .before .before .before .check-places .ensures)) in let f = on-small _ _ _ _ (c .before .before .before .before .before .before .pre .0) (p .source-on) in (c .before .before .before .before .before .before .pre .0, f .0, f .1)
 
 returns-3 : tie.Need-returns-3
 unfolding checkedNumber number

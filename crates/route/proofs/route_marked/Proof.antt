@@ -2,7 +2,7 @@
 use borrow.Author.Needs.{needs}
 use mathlib.Core.Path.{sym, _∙_}
 use borrow.Author.Tests.{not-true, not-false}
-use Rattle.route.proofs.Requests.{request-refused, request-none, request}
+use Rattle.mesh.proofs.Requests.{request-refused, request-none, request}
 use Rattle.route.proofs.Routed.{starts, rest-hops, request-refused-routed, room-refused, routed}
 use Rattle.route.proofs.route_marked.Statement.{statement}
 use Rattle.route.proofs.route_marked.Tie as tie
