@@ -55,7 +55,7 @@ module _ (columns rows : ℕ) (map : List ℕ) (s d : Place) where
 module _ {columns rows : ℕ} {map : List ℕ} {s d : Place} (p : Passed columns rows map s d) where
   pub course-of : Course (tripTo columns rows map d) (blocks (marked (mesh columns rows map)))
   course-of =
-      destination-course (marked (mesh columns rows map)) d (obstacles (accepted columns rows map (p .map-passes))) (p .placed .destination-on) (p .placed .destination-free) (p .off-rings)
+      destination-course (marked (mesh columns rows map)) s d (obstacles (accepted columns rows map (p .map-passes))) (p .placed) (p .off-rings)
 
   pub free-source : FreePlace (tripTo columns rows map d) (s .row .0) (s .column .0)
   unfolding inBlock
@@ -72,5 +72,4 @@ module _ {columns rows : ℕ} {map : List ℕ} {s d : Place} (p : Passed columns
 pub served-of : {columns rows : ℕ} {map : List ℕ} {s d : Place} → Clear columns rows map s d → Served (tripTo columns rows map d) (s .row .0) (s .column .0)
 served-of {columns} {rows} {map} {s} {d} clear =
     let w = marked (mesh columns rows map) in
-    let q = request w s d (clear .none) in
-    source-served w s d (q .placed .source-on) (q .placed .source-free) (q .served)
+    source-served w s d (request w s d (clear .none))

@@ -59,14 +59,13 @@ module _ (columns rows : ℕ) (marks : List ℕ) (s d : Place) (sized : Sized co
   unfolding hopsOf
   rest-hops =
       let w = mesh columns rows marks in
-      same-walk (destination-course w d o (q .placed .destination-on) (q .placed .destination-free) (q .off-rings)) _ _
-      (source-served w s d (q .placed .source-on) (q .placed .source-free) (q .served)) hopLimit _ bound-few (omega arith)
+      same-walk (destination-course w s d o (q .placed) (q .off-rings)) _ _ (source-served w s d q) hopLimit _ bound-few (omega arith)
 
   pub starts : Going columns rows marks (start s d) 0 hopLimit
   starts =
       let w = mesh columns rows marks in
       let on = q .placed .source-on in
-      let arrives = request-arrives w s d o (q .placed .source-on) (q .placed .destination-on) (q .placed .source-free) (q .placed .destination-free) (q .off-rings) (q .served) in
+      let arrives = request-arrives w s d o q in
       record {
         sized = sized;
         row = on-row w s on;

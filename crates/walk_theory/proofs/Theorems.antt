@@ -19,6 +19,7 @@ use Rattle.mesh.specs.Walk.{tripOn, fresh, walk, shutIn, bound}
 use Rattle.mesh.specs.Refusals.{offMesh, inBlock, onARing, unserved}
 use Rattle.mesh.specs.Operations.{hopsOf}
 use Rattle.mesh.proofs.Bools.{true-false, value, and-both, or-cases}
+use Rattle.mesh.proofs.Requests.{on-row, on-column, Placed, Request}
 use Rattle.mesh.proofs.Turns.{turns-change}
 use Rattle.block_theory.specs.Obstacles.{Obstacles}
 use Rattle.block_theory.proofs.Rings.{off-rings-within}
@@ -113,24 +114,28 @@ module _ (w : Mesh) where
       let (p, q) = on-mesh R C on in
       record { obstacles = o; changes = turns-change; row = p; column = q; clear = off-rings-served o R C free off }
 
-  -- a destination that refusals 6, 7 and 8 let pass
-  pub destination-course : (d : Place) → Obstacles (w .columns) (w .rows) (bad w) (blocks w) →
-      offMesh w d ≡ false → inBlock w d ≡ false → onARing w d ≡ false → Course (tripOn w (d .row .0) (d .column .0)) (blocks w)
-  unfolding offMesh inBlock onARing
-  destination-course d o on free off = turns-west-course (d .row .0) (d .column .0) o (not-false _ on) free off
+  module _ (s d : Place) where
+    -- a destination that refusals 6, 7 and 8 let pass
+    pub destination-course : Obstacles (w .columns) (w .rows) (bad w) (blocks w) → Placed w s d → onARing w d ≡ false →
+        Course (tripOn w (d .row .0) (d .column .0)) (blocks w)
+    unfolding offMesh inBlock onARing
+    destination-course o p off =
+        turns-west-course (d .row .0) (d .column .0) o (not-false _ (p .destination-on)) (p .destination-free) off
 
-  -- a source that refusals 6, 7 and 9 let pass
-  pub source-served : (s d : Place) → offMesh w s ≡ false → inBlock w s ≡ false → unserved w s d ≡ false →
-      Served (tripOn w (d .row .0) (d .column .0)) (s .row .0) (s .column .0)
-  unfolding offMesh inBlock unserved
-  source-served s d on free served =
-      let (p, q) = on-mesh (s .row .0) (s .column .0) (not-false _ on) in
-      record { place = record { row = p; column = q; free = free }; not-shut = served; off-edge = turns-west-no-edge _ _ _ _ }
+    -- a source that refusals 6, 7 and 9 let pass
+    pub source-served : Request w s d → Served (tripOn w (d .row .0) (d .column .0)) (s .row .0) (s .column .0)
+    unfolding inBlock unserved
+    source-served q =
+        let p = q .placed in
+        record {
+          place = record { row = on-row w s (p .source-on); column = on-column w s (p .source-on); free = p .source-free };
+          not-shut = q .served;
+          off-edge = turns-west-no-edge _ _ _ _;
+        }
 
-  -- the hops of a request that refusals 6 to 9 let pass are a lawful route within the bound
-  pub request-arrives : (s d : Place) → Obstacles (w .columns) (w .rows) (bad w) (blocks w) → offMesh w s ≡ false → offMesh w d ≡ false →
-      inBlock w s ≡ false → inBlock w d ≡ false → onARing w d ≡ false → unserved w s d ≡ false →
-      Arrives (tripOn w (d .row .0) (d .column .0)) (blocks w) (s .row .0) (s .column .0) (hopsOf w s d)
-  unfolding hopsOf
-  request-arrives s d o on-s on-d free-s free-d off served =
-      walk-arrives (destination-course d o on-d free-d off) _ _ (source-served s d on-s free-s served) _ (omega arith)
+    -- the hops of a request that refusals 6 to 9 let pass are a lawful route within the bound
+    pub request-arrives : Obstacles (w .columns) (w .rows) (bad w) (blocks w) → Request w s d →
+        Arrives (tripOn w (d .row .0) (d .column .0)) (blocks w) (s .row .0) (s .column .0) (hopsOf w s d)
+    unfolding hopsOf
+    request-arrives o q =
+        walk-arrives (destination-course o (q .placed) (q .off-rings)) _ _ (source-served q) _ (omega arith)
