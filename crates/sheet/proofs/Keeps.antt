@@ -7,8 +7,8 @@ use native.Mathlib.Omega.{arith}
 use lib.ListN.{length, take, drop, length-drop}
 use lib.Seq.{length-take-le}
 use Rattle.mesh.proofs.Bools.{true-false}
-use Rattle.sheets.specs.declared.Reader.{Reader}
-use Rattle.sheets.specs.Keeping.{Reading}
+use Rattle.reader.specs.declared.Reader.{Reader}
+use Rattle.reader.specs.Reading.{Reading}
 
 -- a reader that is to read no more is still a reader
 pub reading-stopped : {r x : Reader} {hold map marks : List ℕ} → Reading r hold map marks → x .over ≡ true → x .held ≡ r .held → Reading x hold map marks

@@ -3,13 +3,13 @@ ghost use mathlib.Core.Path.{_≡_};
 ghost use mathlib.Core.Bool.{true};
 ghost use Prim.Native.Nat.{_≤_, _<_};
 ghost use lib.ListN.{length};
-ghost use Rattle.sheets.specs.Keeping.{Reading};
+ghost use Rattle.reader.specs.Reading.{Reading};
 use libc::STDIN_FILENO;
 use libc::STDOUT_FILENO;
-use sheets::Reader;
-use sheets::begin;
-use sheets::finish;
-use sheets::take_bytes;
+use reader::Reader;
+use reader::begin;
+use reader::finish;
+use reader::take_bytes;
 
 // A reader, and how many bytes it has taken.
 struct Part {

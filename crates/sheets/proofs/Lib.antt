@@ -1,8 +1,4 @@
-pub mod Lines
-pub mod Theorems
 pub mod Phases
 pub mod Faults
 pub mod Sends
-pub mod Ends
 pub mod Answering
-pub mod Feeding

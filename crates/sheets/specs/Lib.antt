@@ -1,4 +1,3 @@
 pub mod Sheet
-pub mod Reader
 pub mod Keeping
 pub mod Cases

@@ -1,9 +1,8 @@
-// A sheet, read byte by byte and answered line by line.
+// A line of a sheet, answered.
 ghost use mathlib.Core.Path.{_≡_};
-ghost use mathlib.Core.Bool.{true, false};
+ghost use mathlib.Core.Bool.{true};
 ghost use Rattle.prints.specs.Prints.{line, lineWord, noWord};
 ghost use Prim.Native.Nat.{ℕ, _+_, _≤_, _<_};
-ghost use mathlib.Core.List.{List};
 ghost use lib.ListN.{length};
 ghost use Rattle.mesh.specs.Mesh.{mesh};
 ghost use Rattle.mesh.specs.Blocks.{bad, blocks};
@@ -11,9 +10,8 @@ ghost use Rattle.block_theory.specs.Obstacles.{Obstacles};
 ghost use Rattle.maps.specs.Sized.{Sized};
 ghost use Rattle.buffers.specs.Over.{Puts};
 ghost use Rattle.sheets.specs.Sheet.{sendAnswer, meshLine, faultLine, sendLine, lineStep};
-ghost use Rattle.sheets.specs.Reader.{feed, finish};
 ghost use Rattle.sheets.specs.declared.Phase.the-variants.{Start, Faults};
-ghost use Rattle.sheets.specs.Keeping.{stateOf, MapReady, Ready, markedMesh, Sendable, Opens, ended, Answers, StepsMap, Cleared, readerOf, Reading, Feeds, FeedsSome, Finishing, Begins};
+ghost use Rattle.sheets.specs.Keeping.{stateOf, MapReady, Ready, markedMesh, Sendable, Opens, ended, Answers, StepsMap, Cleared};
 use maps::has_misplaced;
 use maps::is_bad_size;
 use maps::refusal_number;
@@ -48,21 +46,6 @@ pub struct Answered {
     pub sheet: Sheet,
     pub at: usize,
     pub ends: bool,
-}
-
-// A sheet being read: the number of the line, how many bytes of it are held, and whether the run is over.
-pub struct Reader {
-    pub sheet: Sheet,
-    pub number: u32,
-    pub held: usize,
-    pub over: bool,
-}
-
-// A reader, the index after what is printed, and how many bytes it has taken.
-pub struct Fed {
-    pub reader: Reader,
-    pub at: usize,
-    pub taken: usize,
 }
 
 // ok HOPS LETTERS, or no NUMBER. There is room for every route.
@@ -142,15 +125,13 @@ fn first_line(
     if is_bad_size(rows) {
         return refuse(sheet, 2, out, at);
     }
-    let n = columns * rows;
-    clear(map, n as usize);
-    let next = Sheet {
-        phase: Phase::Faults,
-        columns,
-        rows,
-    };
+    clear(map, (columns * rows) as usize);
     Answered {
-        sheet: next,
+        sheet: Sheet {
+            phase: Phase::Faults,
+            columns,
+            rows,
+        },
         at,
         ends: false,
     }
@@ -189,19 +170,13 @@ fn set_fault(
     requires { ⌜ MapReady sheet (now map) × (sheet .phase ≡ Faults) × (number < 100000) × (at + 24730 ≤ length (now out)) ⌝ }
     ensures { λ x. ⌜ StepsMap (faultLine Faults number (stateOf sheet (now (map .entry))) p) (now (out .entry)) at x (now (map .exit)) (now (out .exit)) ⌝ }
 {
-    let columns = sheet.columns;
-    let rows = sheet.rows;
-    let r = p.row;
-    let c = p.column;
-    let row = r.0;
-    let column = c.0;
-    if rows <= row {
+    if sheet.rows <= p.row.0 {
         return bad_line(sheet, number, out, at);
     }
-    if columns <= column {
+    if sheet.columns <= p.column.0 {
         return bad_line(sheet, number, out, at);
     }
-    let i = row * columns + column;
+    let i = p.row.0 * sheet.columns + p.column.0;
     map[i as usize] = 1;
     Answered {
         sheet,
@@ -231,27 +206,25 @@ fn fault_line(
 }
 
 // blocks B, or no 5: the marking is made here, once for the whole sheet.
-fn open_sends(sheet: Sheet, map: &[u8], marks: &mut [u8], out: &mut [u8], at: usize) -> Answered
+pub fn open_sends(sheet: Sheet, map: &[u8], marks: &mut [u8], out: &mut [u8], at: usize) -> Answered
     requires { ⌜ Ready sheet (now map) (now marks) × (sheet .phase ≡ Faults) × (at + 24730 ≤ length (now out)) ⌝ }
     ensures { λ x. ⌜ Opens sheet (now (map .entry)) (now (out .entry)) at x (now (marks .exit)) (now (out .exit)) ⌝ }
 {
     let columns = sheet.columns;
     let rows = sheet.rows;
-    let size = columns * rows;
-    let n = size as usize;
+    let n = (columns * rows) as usize;
     if has_misplaced(columns, rows, &map[..n]) {
         return refuse(sheet, 5, out, at);
     }
     mark(columns, rows, &map[..n], &mut marks[..n]);
     let k = count_blocks(columns, rows, &marks[..n]);
     let next = put_blocks(out, at, k);
-    let sends = Sheet {
-        phase: Phase::Sends,
-        columns,
-        rows,
-    };
     Answered {
-        sheet: sends,
+        sheet: Sheet {
+            phase: Phase::Sends,
+            columns,
+            rows,
+        },
         at: next,
         ends: false,
     }
@@ -270,13 +243,11 @@ fn next_send(
     requires { ⌜ Sendable sheet (now marks) × (24704 ≤ length (now letters)) × (at + 24714 ≤ length (now out)) ⌝ }
     ensures { λ x. ⌜ Puts (now (out .entry)) at (sendAnswer (markedMesh sheet (now (marks .entry))) s d) x (now (out .exit)) ⌝ }
 {
-    let columns = sheet.columns;
-    let rows = sheet.rows;
-    let size = columns * rows;
+    let n = (sheet.columns * sheet.rows) as usize;
     answer_send(
-        columns,
-        rows,
-        &marks[..size as usize],
+        sheet.columns,
+        sheet.rows,
+        &marks[..n],
         s,
         d,
         letters,
@@ -343,7 +314,7 @@ fn send_line(
 }
 
 // A line with its newline, without which text is given.
-fn answer_line(
+pub fn answer_line(
     sheet: Sheet,
     number: u32,
     text: &[u8],
@@ -373,151 +344,5 @@ fn answer_line(
         Command::Fault(p) => return fault_line(sheet, number, p, map, out, at),
         Command::Send(s, d) => return send_line(sheet, number, s, d, map, marks, letters, out, at),
         Command::Malformed => return bad_line(sheet, number, out, at),
-    }
-}
-
-// A sheet of which nothing is read yet.
-pub fn begin() -> Reader
-    ensures { λ x. ⌜ Begins x ⌝ }
-{
-    let sheet = Sheet {
-        phase: Phase::Start,
-        columns: 0,
-        rows: 0,
-    };
-    Reader {
-        sheet,
-        number: 1,
-        held: 0,
-        over: false,
-    }
-}
-
-// One byte of a sheet.
-fn take_byte(
-    reader: Reader,
-    byte: u8,
-    hold: &mut [u8],
-    map: &mut [u8],
-    marks: &mut [u8],
-    letters: &mut [u8],
-    out: &mut [u8],
-    at: usize,
-) -> Fed
-    requires { ⌜ Reading reader (now hold) (now map) (now marks) × (reader .over ≡ false) × (24704 ≤ length (now letters)) × (at + 24730 ≤ length (now out)) ⌝ }
-    ensures { λ x. ⌜ Feeds (feed (readerOf reader (now (hold .entry)) (now (map .entry))) byte) (now (out .entry)) at x (now (hold .exit)) (now (map .exit)) (now (marks .exit)) (now (out .exit)) ⌝ }
-{
-    let sheet = reader.sheet;
-    let number = reader.number;
-    let held = reader.held;
-    if byte == b'\n' {
-        let answered = answer_line(sheet, number, &hold[..held], map, marks, letters, out, at);
-        let after = answered.sheet;
-        let next = Reader {
-            sheet: after,
-            number: number + 1,
-            held: 0,
-            over: answered.ends,
-        };
-        return Fed {
-            reader: next,
-            at: answered.at,
-            taken: 1,
-        };
-    }
-    if 20 <= held {
-        let end = put_bad_line(out, at, number);
-        let over = Reader {
-            sheet,
-            number,
-            held,
-            over: true,
-        };
-        return Fed {
-            reader: over,
-            at: end,
-            taken: 1,
-        };
-    }
-    hold[held] = byte;
-    let longer = Reader {
-        sheet,
-        number,
-        held: held + 1,
-        over: false,
-    };
-    Fed {
-        reader: longer,
-        at,
-        taken: 1,
-    }
-}
-
-// Bytes of a sheet in turn, until the run is over or there is no room for a further answer.
-pub fn take_bytes(
-    reader: Reader,
-    bytes: &[u8],
-    hold: &mut [u8],
-    map: &mut [u8],
-    marks: &mut [u8],
-    letters: &mut [u8],
-    out: &mut [u8],
-) -> Fed
-    requires { ⌜ Reading reader (now hold) (now map) (now marks) × (24704 ≤ length (now letters)) × (24730 ≤ length (now out)) ⌝ }
-    ensures { λ x. ⌜ FeedsSome (readerOf reader (now (hold .entry)) (now (map .entry))) (now (bytes .entry)) (now (out .entry)) x (now (hold .exit)) (now (map .exit)) (now (marks .exit)) (now (out .exit)) ⌝ }
-{
-    let n = bytes.len();
-    let room = out.len() - 24730;
-    let mut r = reader;
-    let mut at = 0;
-    let mut i = 0;
-    while i < n {
-        if r.over {
-            return Fed {
-                reader: r,
-                at,
-                taken: i,
-            };
-        }
-        if room < at {
-            return Fed {
-                reader: r,
-                at,
-                taken: i,
-            };
-        }
-        let fed = take_byte(r, bytes[i], hold, map, marks, letters, out, at);
-        r = fed.reader;
-        at = fed.at;
-        i += 1;
-    }
-    Fed {
-        reader: r,
-        at,
-        taken: i,
-    }
-}
-
-// The end of the sheet.
-pub fn finish(reader: Reader, map: &[u8], marks: &mut [u8], out: &mut [u8], at: usize) -> usize
-    requires { ⌜ Finishing reader (now map) (now marks) × (at + 24730 ≤ length (now out)) ⌝ }
-    ensures { λ x. ⌜ ((hold : List ℕ) → 20 ≤ length hold → Puts (now (out .entry)) at (finish (readerOf reader hold (now (map .entry)))) x (now (out .exit))) ⌝ }
-{
-    if reader.over {
-        return at;
-    }
-    let sheet = reader.sheet;
-    let number = reader.number;
-    if 0 < reader.held {
-        return put_bad_line(out, at, number);
-    }
-    let phase = sheet.phase;
-    match phase {
-        Phase::Start => return put_bad_line(out, at, number),
-        Phase::Faults => {
-            let opened = open_sends(sheet, map, marks, out, at);
-            return opened.at;
-        }
-        Phase::Sends => return at,
     }
 }

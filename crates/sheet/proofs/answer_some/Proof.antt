@@ -5,7 +5,7 @@ use native.Mathlib.Omega.{arith}
 use borrow.Author.Needs.{needs}
 use lib.ListN.{length}
 use Rattle.sheet.proofs.Keeps.{part-fits}
-use Rattle.sheets.specs.Keeping.{Reading}
+use Rattle.reader.specs.Reading.{Reading}
 use Rattle.sheet.proofs.answer_some.Statement.{statement}
 use Rattle.sheet.proofs.answer_some.Tie as tie
 

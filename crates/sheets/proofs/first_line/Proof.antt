@@ -29,8 +29,8 @@ same-length-2 c = search needs
 returns-2 : tie.Need-returns-2
 returns-2 c = first-rows (c .before .before .before .before .before .before .before .before .before .before .pre .0) _ _ (c .before .before .before .before .before .before .before .is-bad-size .ensures) (c .before .before .before .before .before .before .if1 .left) (c .before .before .before .before .before .is-bad-size2 .ensures) (c .before .before .before .before .if2 .taken) (c .before .before .refuse2 .ensures)
 
-mul-n : tie.Need-mul-n
-mul-n c = omega (arith, first-nodes _ _ (c .before .before .before .is-bad-size .ensures) (c .before .before .if1 .left) (c .before .is-bad-size2 .ensures) (c .if2 .left))
+mul-clear : tie.Need-mul-clear
+mul-clear c = omega (arith, first-nodes _ _ (c .before .before .before .before .is-bad-size .ensures) (c .before .before .before .if1 .left) (c .before .before .is-bad-size2 .ensures) (c .before .if2 .left))
 
 cast-clear : tie.Need-cast-clear
 cast-clear c = omega (arith, first-nodes _ _ (c .before .before .before .before .is-bad-size .ensures) (c .before .before .before .if1 .left) (c .before .before .is-bad-size2 .ensures) (c .before .if2 .left))
@@ -56,7 +56,7 @@ first-line-spec =
     refuse-requires-2
     same-length-2
     returns-2
-    mul-n
+    mul-clear
     cast-clear
     clear-requires
     same-length-3

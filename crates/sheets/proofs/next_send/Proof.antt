@@ -5,11 +5,11 @@ use Rattle.mesh.proofs.Index.{few-nodes}
 use Rattle.sheets.proofs.next_send.Statement.{statement}
 use Rattle.sheets.proofs.next_send.Tie as tie
 
-mul-size : tie.Need-mul-size
-mul-size c = omega (arith, few-nodes _ _ (c .before .before .before .pre .0 .sized .few-columns) (c .before .before .before .pre .0 .sized .few-rows))
+mul-n : tie.Need-mul-n
+mul-n c = omega (arith, few-nodes _ _ (c .before .before .before .before .pre .0 .sized .few-columns) (c .before .before .before .before .pre .0 .sized .few-rows))
 
-cast-answer-send : tie.Need-cast-answer-send
-cast-answer-send c = omega (arith, few-nodes _ _ (c .before .before .before .pre .0 .sized .few-columns) (c .before .before .before .pre .0 .sized .few-rows))
+cast-n : tie.Need-cast-n
+cast-n c = omega (arith, few-nodes _ _ (c .before .before .before .before .pre .0 .sized .few-columns) (c .before .before .before .before .pre .0 .sized .few-rows))
 
 slice-aggregate-answer-send : tie.Need-slice-aggregate-answer-send
 slice-aggregate-answer-send c = search needs
@@ -30,8 +30,8 @@ pub next-send-spec : {M : Type 1} → statement M
 next-send-spec =
     tie.close
     (tie.spec
-    mul-size
-    cast-answer-send
+    mul-n
+    cast-n
     slice-aggregate-answer-send
     answer-send-requires
     same-length

@@ -8,8 +8,8 @@ use Rattle.sheets.proofs.Sends.{ready-sized, ready-few, count-few, fron
 use Rattle.sheets.proofs.open_sends.Statement.{statement}
 use Rattle.sheets.proofs.open_sends.Tie as tie
 
-mul-size : tie.Need-mul-size
-mul-size c = omega (arith, ready-few _ (c .before .before .before .pre .0 .on-map) (faults-begun (c .before .before .before .pre .1)))
+mul-n : tie.Need-mul-n
+mul-n c = omega (arith, ready-few _ (c .before .before .before .pre .0 .on-map) (faults-begun (c .before .before .before .pre .1)))
 
 cast-n : tie.Need-cast-n
 cast-n c = omega (arith, ready-few _ (c .before .before .before .pre .0 .on-map) (faults-begun (c .before .before .before .pre .1)))
@@ -66,7 +66,7 @@ pub open-sends-spec : {M : Type 1} → statement M
 open-sends-spec =
     tie.close
     (tie.spec
-    mul-size
+    mul-n
     cast-n
     slice-aggregate-has-misplaced
     has-misplaced-requires

@@ -21,25 +21,25 @@ same-length-2 : tie.Need-same-length-2
 same-length-2 c = search needs
 
 returns-2 : tie.Need-returns-2
-returns-2 c = fault-column (c .before .before .before .before .before .before .before .before .before .before .pre .0) _ _ (c .before .before .bad-line2 .ensures) (omega arith) (omega arith)
+returns-2 c = fault-column (c .before .before .before .before .before .before .before .before .before .before .before .before .pre .0) _ _ (c .before .before .bad-line2 .ensures) (omega arith) (omega arith)
 
 mul-i : tie.Need-mul-i
-mul-i c = let i = fault-index (c .before .before .before .before .before .before .pre .0) (c .before .before .before .before .before .before .pre .1) {q = c .before .before .before .before .before .before .args .p} (omega arith) (omega arith) in omega (arith, i .0, i .1)
+mul-i c = let i = fault-index (c .before .before .before .before .before .before .before .before .before .before .pre .0) (c .before .before .before .before .before .before .before .before .before .before .pre .1) {q = c .before .before .before .before .before .before .before .before .before .before .args .p} (omega arith) (omega arith) in omega (arith, i .0, i .1)
 
 add-i : tie.Need-add-i
-add-i c = let i = fault-index (c .before .before .before .before .before .before .pre .0) (c .before .before .before .before .before .before .pre .1) {q = c .before .before .before .before .before .before .args .p} (omega arith) (omega arith) in omega (arith, i .0, i .1)
+add-i c = let i = fault-index (c .before .before .before .before .before .before .before .before .before .before .before .pre .0) (c .before .before .before .before .before .before .before .before .before .before .before .pre .1) {q = c .before .before .before .before .before .before .before .before .before .before .before .args .p} (omega arith) (omega arith) in omega (arith, i .0, i .1)
 
 cast-map : tie.Need-cast-map
-cast-map c = let i = fault-index (c .before .before .before .before .before .before .pre .0) (c .before .before .before .before .before .before .pre .1) {q = c .before .before .before .before .before .before .args .p} (omega arith) (omega arith) in omega (arith, i .0, i .1)
+cast-map c = let i = fault-index (c .before .before .before .before .before .before .before .before .before .before .before .pre .0) (c .before .before .before .before .before .before .before .before .before .before .before .pre .1) {q = c .before .before .before .before .before .before .before .before .before .before .before .args .p} (omega arith) (omega arith) in omega (arith, i .0, i .1)
 
 slice-write-map : tie.Need-slice-write-map
-slice-write-map c = let i = fault-index (c .before .before .before .before .before .before .pre .0) (c .before .before .before .before .before .before .pre .1) {q = c .before .before .before .before .before .before .args .p} (omega arith) (omega arith) in omega (arith, i .0, i .1, c .before .before .before .before .before .before .pre .0 .room)
+slice-write-map c = let i = fault-index (c .before .before .before .before .before .before .before .before .before .before .before .pre .0) (c .before .before .before .before .before .before .before .before .before .before .before .pre .1) {q = c .before .before .before .before .before .before .before .before .before .before .before .args .p} (omega arith) (omega arith) in omega (arith, i .0, i .1, c .before .before .before .before .before .before .before .before .before .before .before .pre .0 .room)
 
 same-length-3 : tie.Need-same-length-3
 same-length-3 c = search needs
 
 returns-3 : tie.Need-returns-3
-returns-3 c = fault-set (c .before .before .before .before .before .before .pre .0) (c .before .before .before .before .before .before .pre .1) (omega arith) (omega arith) _ _ _ (omega arith)
+returns-3 c = fault-set (c .before .before .before .before .before .before .before .before .before .before .before .pre .0) (c .before .before .before .before .before .before .before .before .before .before .before .pre .1) (omega arith) (omega arith) _ _ _ (omega arith)
 
 pub set-fault-spec : {M : Type 1} → statement M
 set-fault-spec =

@@ -3,9 +3,9 @@ use borrow.Author.Needs.{needs}
 use mathlib.Core.Path.{sym}
 use native.Mathlib.Omega.{arith}
 use lib.Seq.{length-take-le}
-use Rattle.sheets.proofs.Feeding.{feed-line, feed-long, feed-held}
-use Rattle.sheets.proofs.take_byte.Statement.{statement}
-use Rattle.sheets.proofs.take_byte.Tie as tie
+use Rattle.reader.proofs.Feeding.{feed-line, feed-long, feed-held}
+use Rattle.reader.proofs.take_byte.Statement.{statement}
+use Rattle.reader.proofs.take_byte.Tie as tie
 
 slice-reshare-prefix-answer-line : tie.Need-slice-reshare-prefix-answer-line
 slice-reshare-prefix-answer-line c = search needs
@@ -16,8 +16,8 @@ slice-aggregate-answer-line c = sym (length-take-le _ _ (omega (arith, c .before
 answer-line-requires : tie.Need-answer-line-requires
 answer-line-requires c κs = (c .before .before .before .before .before .before .before .before .before .before .before .before .pre .0 .ready (c .before .before .before .before .before .before .before .before .before .before .before .before .pre .1), omega (arith, c .before .before .before .before .before .before .before .before .before .before .before .before .pre .0 .few (c .before .before .before .before .before .before .before .before .before .before .before .before .pre .1)), c .before .before .before .before .before .before .before .before .before .before .before .before .pre .2, c .before .before .before .before .before .before .before .before .before .before .before .before .pre .3)
 
-add-t29 : tie.Need-add-t29
-add-t29 c = omega (arith, c .before .before .before .before .before .before .before .before .before .before .before .before .before .before .before .before .before .before .before .before .before .before .pre .0 .few (c .before .before .before .before .before .before .before .before .before .before .before .before .before .before .before .before .before .before .before .before .before .before .pre .1))
+add-t26 : tie.Need-add-t26
+add-t26 c = omega (arith, c .before .before .before .before .before .before .before .before .before .before .before .before .before .before .before .before .before .before .before .before .before .before .pre .0 .few (c .before .before .before .before .before .before .before .before .before .before .before .before .before .before .before .before .before .before .before .before .before .before .pre .1))
 
 same-length : tie.Need-same-length
 same-length c = search needs
@@ -49,8 +49,8 @@ returns-2 c = feed-long _ _ _ _ _ _ _ (c .before .before .before .before .before
 slice-write-hold : tie.Need-slice-write-hold
 slice-write-hold c = search needs
 
-add-t33 : tie.Need-add-t33
-add-t33 c = search needs
+add-t32 : tie.Need-add-t32
+add-t32 c = search needs
 
 same-length-7 : tie.Need-same-length-7
 same-length-7 c = search needs
@@ -65,7 +65,7 @@ take-byte-spec =
     slice-reshare-prefix-answer-line
     slice-aggregate-answer-line
     answer-line-requires
-    add-t29
+    add-t26
     same-length
     same-length-2
     same-length-3
@@ -76,6 +76,6 @@ take-byte-spec =
     same-length-6
     returns-2
     slice-write-hold
-    add-t33
+    add-t32
     same-length-7
     returns-3)

@@ -5,15 +5,16 @@ use mathlib.Core.List.{List, [], _∷_}
 use Prim.Native.Nat.{ℕ, zero, suc, _≤_, _<_}
 use native.Mathlib.Omega.{arith}
 use lib.ListN.{length, take}
 use Rattle.sheets.specs.declared.Phase.the-variants.{Start, Faults, Sends}
 use Rattle.sheets.specs.declared.Answered.{Answered}
-use Rattle.sheets.specs.declared.Reader.{Reader as Held}
+use Rattle.reader.specs.declared.Reader.{Reader as Held}
 use Rattle.buffers.specs.Over.{Puts}
 use Rattle.buffers.proofs.Over.{puts-nothing}
 use Rattle.prints.specs.Prints.{line, lineWord}
 use Rattle.sheets.specs.Sheet.{blocksLine, isMisplaced, atEnd}
-use Rattle.sheets.specs.Reader.{Reader, lastLine, finish}
-use Rattle.sheets.specs.Keeping.{stateOf, readerOf, Opens}
+use Rattle.reader.specs.Reader.{Reader, lastLine, finish}
+use Rattle.sheets.specs.Keeping.{stateOf, Opens}
+use Rattle.reader.specs.Reading.{readerOf}
 
 last-held : (r : Reader) (k : ℕ) (hold : List ℕ) → 0 < k → 0 < length hold → lastLine r (take k hold) ≡ line lineWord (r .number)
 unfolding lastLine

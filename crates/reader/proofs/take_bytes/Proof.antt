@@ -3,10 +3,10 @@ use mathlib.Core.Path.{_≡_, refl, _∙_}
 use Prim.Native.Nat.{_+_, _≤_, _-_}
 use native.Mathlib.Omega.{arith}
 use lib.ListN.{length}
-use Rattle.sheets.specs.Keeping.{readerOf}
-use Rattle.sheets.proofs.Feeding.{Taking, taking-none, taking-more, taken}
-use Rattle.sheets.proofs.take_bytes.Statement.{statement}
-use Rattle.sheets.proofs.take_bytes.Tie as tie
+use Rattle.reader.specs.Reading.{readerOf}
+use Rattle.reader.proofs.Feeding.{Taking, taking-none, taking-more, taken}
+use Rattle.reader.proofs.take_bytes.Statement.{statement}
+use Rattle.reader.proofs.take_bytes.Tie as tie
 
 abbrev Inv-loop : tie.InvT-loop
 Inv-loop bytes hold₀ map₀ marks₀ letters₀ out₀ n room r₀ at₀ i₀ hold map marks letters out r at i = (i ≤ n) × (n ≡ length bytes) × (room + 24730 ≡ length out₀) × (length hold ≡ length hold₀) × (length map ≡ length map₀) × (length marks ≡ length marks₀) × (length letters ≡ length letters₀) × (24704 ≤ length letters) × Taking (readerOf r₀ hold₀ map₀) bytes out₀ hold map marks out r at i

@@ -1,21 +1,21 @@
 -- By how the sheet stands. Assumes nothing.
 use borrow.Author.Needs.{needs}
 use native.Mathlib.Omega.{arith}
-use Rattle.sheets.proofs.Ends.{finish-over, finish-held, finish-start, finish-faults, finish-sends}
-use Rattle.sheets.proofs.finish.Statement.{statement}
-use Rattle.sheets.proofs.finish.Tie as tie
+use Rattle.reader.proofs.Ends.{finish-over, finish-held, finish-start, finish-faults, finish-sends}
+use Rattle.reader.proofs.finish.Statement.{statement}
+use Rattle.reader.proofs.finish.Tie as tie
 
 returns : tie.Need-returns
 returns c = λ hold p. finish-over (c .before .before .before .before .args .reader) _ hold _ _ (omega arith) (c .if1 .taken)
 
 put-bad-line-requires : tie.Need-put-bad-line-requires
-put-bad-line-requires c κs = (omega (arith, c .before .before .before .before .before .before .before .before .pre .0 .few (c .before .before .before .before .if1 .left)), omega arith)
+put-bad-line-requires c κs = (omega (arith, c .before .before .before .before .before .before .before .pre .0 .few (c .before .before .before .if1 .left)), omega arith)
 
 same-length : tie.Need-same-length
 same-length c = search needs
 
 returns-2 : tie.Need-returns-2
-returns-2 c = λ hold p. finish-held _ _ hold _ _ (c .before .before .before .before .before .before .before .if1 .left) (c .before .before .before .before .if2 .taken) (c .before .before .put-bad-line .ensures) p
+returns-2 c = λ hold p. finish-held _ _ hold _ _ (c .before .before .before .before .before .before .if1 .left) (c .before .before .before .before .if2 .taken) (c .before .before .put-bad-line .ensures) p
 
 enum-told : tie.Need-enum-told
 enum-told c = search needs
@@ -27,7 +27,7 @@ same-length-2 : tie.Need-same-length-2
 same-length-2 c = search needs
 
 returns-3 : tie.Need-returns-3
-returns-3 c = λ hold p. finish-start _ _ hold _ _ (c .before .before .before .before .before .before .before .before .before .if1 .left) (c .before .before .before .before .before .before .if2 .left) (c .before .before .before .before .enum-told .given .1) (c .before .before .put-bad-line2 .ensures)
+returns-3 c = λ hold p. finish-start _ _ hold _ _ (c .before .before .before .before .before .before .before .before .before .if1 .left) (c .before .before .before .before .before .before .before .if2 .left) (c .before .before .before .before .enum-told .given .1) (c .before .before .put-bad-line2 .ensures)
 
 enum-told-2 : tie.Need-enum-told-2
 enum-told-2 c = search needs
@@ -42,13 +42,13 @@ same-length-4 : tie.Need-same-length-4
 same-length-4 c = search needs
 
 returns-4 : tie.Need-returns-4
-returns-4 c = λ hold p. finish-faults _ _ hold _ _ (c .before .before .before .before .before .before .before .before .before .before .before .before .if1 .left) (c .before .before .before .before .before .before .before .before .before .if2 .left) (c .before .before .before .before .before .before .before .enum-told2 .given .1) (c .before .before .before .before .open-sends .ensures)
+returns-4 c = λ hold p. finish-faults _ _ hold _ _ (c .before .before .before .before .before .before .before .before .before .before .before .before .if1 .left) (c .before .before .before .before .before .before .before .before .before .before .if2 .left) (c .before .before .before .before .before .before .before .enum-told2 .given .1) (c .before .before .before .before .open-sends .ensures)
 
 enum-told-3 : tie.Need-enum-told-3
 enum-told-3 c = search needs
 
 returns-5 : tie.Need-returns-5
-returns-5 c = λ hold p. finish-sends _ _ hold _ _ (c .before .before .before .before .before .if1 .left) (c .before .before .if2 .left) (omega arith) (c .enum-told3 .given .1)
+returns-5 c = λ hold p. finish-sends _ _ hold _ _ (c .before .before .before .before .before .if1 .left) (c .before .before .before .if2 .left) (omega arith) (c .enum-told3 .given .1)
 
 pub finish-spec : {M : Type 1} → statement M
 finish-spec =

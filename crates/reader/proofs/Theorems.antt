@@ -5,9 +5,9 @@ use mathlib.Core.List.{List, [], _++_}
 use Prim.Native.Nat.{ℕ}
 use native.Mathlib.Omega.{arith}
 use Rattle.words.proofs.Lengths.{long-malformed}
 use Rattle.sheets.specs.Sheet.{nothing, sheet}
-use Rattle.sheets.specs.Reader.{Reader, begun, feedAll, finish}
-use Rattle.sheets.proofs.Lines.{Unbroken, rests, chunks, reads}
+use Rattle.reader.specs.Reader.{Reader, begun, feedAll, finish}
+use Rattle.reader.proofs.Lines.{Unbroken, rests, chunks, reads}
 
 -- once the run is over, nothing is printed and nothing changes
 pub over-rests : (r : Reader) (xs : List ℕ) → r .over ≡ true → feedAll r xs ≡ record { printed = []; next = r }

@@ -1,9 +1,9 @@
 -- Nothing is said, nothing is held. Assumes nothing.
 use mathlib.Core.Path.{refl}
 use native.Mathlib.Omega.{arith}
 use Rattle.sheets.proofs.Phases.{sends-begun}
-use Rattle.sheets.proofs.begin.Statement.{statement}
-use Rattle.sheets.proofs.begin.Tie as tie
+use Rattle.reader.proofs.begin.Statement.{statement}
+use Rattle.reader.proofs.begin.Tie as tie
 
 returns : tie.Need-returns
 returns c = record { begins = λ hold map. refl; reading = λ hold map marks p q r. record { room = p; short = omega arith; few = λ e. omega arith; ready = λ e. record { on-map = record { room = q; four = λ n. absurd (n refl) }; room = r; sends = λ e. sends-begun e refl } } }

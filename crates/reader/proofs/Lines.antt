@@ -12,8 +12,8 @@ use Rattle.words.specs.declared.Command.the-variants.{Malformed}
 use Rattle.words.specs.Words.{command}
 use Rattle.prints.specs.Prints.{line, lineWord}
 use Rattle.mesh.proofs.Bools.{value}
 use Rattle.sheets.specs.Sheet.{Line, before, linesOf, State, badLine, commandStep, lineStep, answers}
-use Rattle.sheets.specs.Reader.{Reader, feed, feedAll, lastLine, finish}
+use Rattle.reader.specs.Reader.{Reader, feed, feedAll, lastLine, finish}
 
 -- bytes without a newline
 unfoldable pub Unbroken : List ℕ → Type 0

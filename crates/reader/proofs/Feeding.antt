@@ -14,13 +14,14 @@ use Rattle.mesh.proofs.Bools.{value, true-false}
 use Rattle.buffers.specs.Over.{Puts}
 use Rattle.buffers.proofs.Over.{puts-nothing, puts-append, over-length}
 use Rattle.prints.specs.Prints.{line, lineWord}
 use Rattle.sheets.specs.declared.Answered.{Answered}
-use Rattle.sheets.specs.declared.Reader.{Reader as Held}
-use Rattle.sheets.specs.declared.Fed.{Fed as Taken}
+use Rattle.reader.specs.declared.Reader.{Reader as Held}
+use Rattle.reader.specs.declared.Fed.{Fed as Taken}
 use Rattle.sheets.specs.Sheet.{State, lineStep}
-use Rattle.sheets.specs.Reader.{Reader, feed, feedAll}
-use Rattle.sheets.specs.Keeping.{stateOf, readerOf, ended, Answers, Reading, Feeds, FeedsSome}
-use Rattle.sheets.proofs.Lines.{goes-on, chunks}
+use Rattle.reader.specs.Reader.{Reader, feed, feedAll}
+use Rattle.sheets.specs.Keeping.{stateOf, ended, Answers}
+use Rattle.reader.specs.Reading.{readerOf, Reading, Feeds, FeedsSome}
+use Rattle.reader.proofs.Lines.{goes-on, chunks}
 
 -- only a line that is at most the 65,535th lets the run go on
 goes-on-early : (n : ℕ) (t : State) (text : List ℕ) → lineStep n t (ended text) .ends ≡ false → n ≤ 65535

@@ -1,0 +1,4 @@
+pub mod Lines
+pub mod Theorems
+pub mod Ends
+pub mod Feeding

@@ -1,0 +1,46 @@
+-- What the code keeps of a sheet being read: the reader of the definitions, read off its struct and lent buffers. Assumes nothing.
+use mathlib.Core.Path.{_≡_}
+use mathlib.Core.Bool.{false}
+use mathlib.Core.List.{List}
+use Prim.Native.Nat.{ℕ, _≤_}
+use lib.ListN.{length, take}
+use Rattle.buffers.specs.Over.{Puts}
+use Rattle.sheets.specs.Keeping.{stateOf, Ready}
+use Rattle.reader.specs.declared.Reader.{Reader as Held}
+use Rattle.reader.specs.declared.Fed.{Fed as Taken}
+use Rattle.reader.specs.Reader.{Reader, begun, Fed, feedAll}
+
+-- the reader of the definitions
+abbrev pub readerOf : Held → List ℕ → List ℕ → Reader
+readerOf r hold map =
+    record { number = r .number; state = stateOf (r .sheet) map; held = take (r .held) hold; over = r .over }
+
+-- at most 20 bytes are held, of a line that is at most the 65,536th
+pub record Reading (r : Held) (hold map marks : List ℕ) : Type 0 where
+  pub room : 20 ≤ length hold
+  pub short : r .held ≤ 20
+  pub few : r .over ≡ false → r .number ≤ 65536
+  pub ready : r .over ≡ false → Ready (r .sheet) map marks
+
+-- bytes are taken as the definition says
+pub record Feeds (f : Fed) (out : List ℕ) (at : ℕ) (x : Taken) (hold map marks after : List ℕ) : Type 0 where
+  pub puts : Puts out at (f .printed) (x .at) after
+  pub next : readerOf (x .reader) hold map ≡ f .next
+  pub reading : Reading (x .reader) hold map marks
+
+-- of bytes, as many as are told to be taken are taken as the definition says, and written from the start of out
+pub record FeedsSome (r : Reader) (bytes out : List ℕ) (x : Taken) (hold map marks after : List ℕ) : Type 0 where
+  pub taken : x .taken ≤ length bytes
+  pub feeds : Feeds (feedAll r (take (x .taken) bytes)) out 0 x hold map marks after
+  pub room : x .at ≤ length out
+
+-- the end can be told
+pub record Finishing (r : Held) (map marks : List ℕ) : Type 0 where
+  pub short : r .held ≤ 20
+  pub few : r .over ≡ false → r .number ≤ 65536
+  pub ready : r .over ≡ false → Ready (r .sheet) map marks
+
+-- the reader of a sheet of which nothing is read yet
+pub record Begins (r : Held) : Type 0 where
+  pub begins : (hold map : List ℕ) → readerOf r hold map ≡ begun
+  pub reading : (hold map marks : List ℕ) → 20 ≤ length hold → 4096 ≤ length map → 4096 ≤ length marks → Reading r hold map marks
