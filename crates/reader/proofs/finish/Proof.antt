@@ -15,7 +15,7 @@ same-length : tie.Need-same-length
 same-length c = search needs
 
 returns-2 : tie.Need-returns-2
-returns-2 c = λ hold p. finish-held _ _ hold _ _ (c .before .before .before .before .before .before .if1 .left) (c .before .before .before .before .if2 .taken) (c .before .before .put-bad-line .ensures) p
+returns-2 c = λ hold p. finish-held (c .before .before .before .before .before .before .before .before .before .before .args .reader) _ hold _ _ (c .before .before .before .before .before .before .if1 .left) (omega arith) (c .before .before .put-bad-line .ensures) p
 
 enum-told : tie.Need-enum-told
 enum-told c = search needs
