@@ -231,18 +231,12 @@ fn write_packet(p: Packet, xs: &mut [u32])
     requires { ⌜ length (now xs) ≡ 5 ⌝ }
     ensures { λ _. ⌜ now (xs .exit) ≡ numbersOf p ⌝ }
 {
-    let place = p.place;
     let last = p.last;
-    let destination = p.destination;
-    let r = place.row;
-    let c = place.column;
-    let to_r = destination.row;
-    let to_c = destination.column;
-    xs[0] = r.0;
-    xs[1] = c.0;
+    xs[0] = p.place.row.0;
+    xs[1] = p.place.column.0;
     xs[2] = last_number(last);
-    xs[3] = to_r.0;
-    xs[4] = to_c.0;
+    xs[3] = p.destination.row.0;
+    xs[4] = p.destination.column.0;
 }
 
 // Move on, for a record of five numbers: row, column, last hop, destination row, destination column.

@@ -135,9 +135,7 @@ pub fn is_bad_node(columns: u32, rows: u32, map: &[u8], r: Row, c: Column) -> bo
     requires { ⌜ Sized columns rows (now map) × (r .0 < rows) × (c .0 < columns) ⌝ }
     ensures { λ x. ⌜ x ≡ bad (mesh columns rows (now (map .entry))) (r .0) (c .0) ⌝ }
 {
-    let row = r.0;
-    let column = c.0;
-    let at = row * columns + column;
+    let at = r.0 * columns + c.0;
     map[at as usize] != 0
 }
 

@@ -46,16 +46,14 @@ fn step_marked(columns: u32, rows: u32, marks: &[u8], p: Packet) -> Stepped
     requires { ⌜ Sized columns rows (now marks) × Obstacles columns rows (bad (mesh columns rows (now marks))) (blocks (mesh columns rows (now marks))) ⌝ }
     ensures { λ x. ⌜ Moves (refusalOn (mesh columns rows (now (marks .entry))) p) (mesh columns rows (now (marks .entry))) p (x .moved) (x .packet) ⌝ }
 {
-    let place = p.place;
-    let destination = p.destination;
-    let checked = check_places(columns, rows, marks, place, destination);
+    let checked = check_places(columns, rows, marks, p.place, p.destination);
     if let Checked::Refused(why) = checked {
         return Stepped {
             packet: p,
             moved: Moved::Refused(why),
         };
     }
-    let on_ring = is_on_ring(columns, rows, marks, destination);
+    let on_ring = is_on_ring(columns, rows, marks, p.destination);
     let there = is_there(p);
     if on_ring {
         return Stepped {

@@ -23,14 +23,10 @@ use mesh::Row;
 fn is_off_mesh(columns: u32, rows: u32, p: Place) -> bool
     ensures { λ x. ⌜ ((marks : List ℕ) → x ≡ offMesh (mesh columns rows marks) p) ⌝ }
 {
-    let r = p.row;
-    let row = r.0;
-    let c = p.column;
-    let column = c.0;
-    if rows <= row {
+    if rows <= p.row.0 {
         return true;
     }
-    columns <= column
+    columns <= p.column.0
 }
 
 // Refusal 7 for one place: in a block of the marking.
@@ -77,8 +73,7 @@ fn is_row_near(columns: u32, rows: u32, marks: &[u8], r: Row, c: Column) -> bool
     requires { ⌜ Sized columns rows (now marks) × (c .0 < 64) ⌝ }
     ensures { λ x. ⌜ x ≡ rowNear (bad (mesh columns rows (now (marks .entry)))) (r .0) (c .0) ⌝ }
 {
-    let row = r.0;
-    if rows <= row {
+    if rows <= r.0 {
         return false;
     }
     if is_bad(columns, rows, marks, r, c) {
@@ -95,10 +90,9 @@ pub fn is_on_ring(columns: u32, rows: u32, marks: &[u8], p: Place) -> bool
     requires { ⌜ Sized columns rows (now marks) × Obstacles columns rows (bad (mesh columns rows (now marks))) (blocks (mesh columns rows (now marks))) × (offMesh (mesh columns rows (now marks)) p ≡ false) × (inBlock (mesh columns rows (now marks)) p ≡ false) ⌝ }
     ensures { λ x. ⌜ x ≡ onARing (mesh columns rows (now (marks .entry))) p ⌝ }
 {
-    let r = p.row;
-    let row = r.0;
+    let row = p.row.0;
     let c = p.column;
-    if is_row_near(columns, rows, marks, r, c) {
+    if is_row_near(columns, rows, marks, Row(row), c) {
         return true;
     }
     if is_row_near(columns, rows, marks, Row(row + 1), c) {

@@ -44,8 +44,7 @@ fn toward(from: Row, to: Row) -> Heading
 fn is_own(s: Heading, c: Column) -> bool
     ensures { λ x. ⌜ ((w : Mesh) (R C : ℕ) → x ≡ own (tripOn w R C) s (c .0)) ⌝ }
 {
-    let column = c.0;
-    let even = column % 2 == 0;
+    let even = c.0 % 2 == 0;
     match s {
         Heading::East => return !even,
         Heading::North => return false,

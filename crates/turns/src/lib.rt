@@ -38,8 +38,7 @@ pub fn is_vertical(h: Heading) -> bool
 fn is_forbidden(before: Heading, after: Heading, c: Column) -> bool
     ensures { λ x. ⌜ x ≡ forbidden turnsWest (c .0) before after ⌝ }
 {
-    let column = c.0;
-    let even = column % 2 == 0;
+    let even = c.0 % 2 == 0;
     if is_vertical(before) {
         if is_same(after, Heading::West) {
             return !even;

@@ -21,7 +21,7 @@ enum-told : tie.Need-enum-told
 enum-told c = search needs
 
 is-on-ring-requires : tie.Need-is-on-ring-requires
-is-on-ring-requires c κs = let p = placed _ _ _ (places-none _ _ _ (c .enum-told .given .1) (c .before .before .check-places .ensures)) in (c .before .before .before .before .before .before .pre .0, c .before .before .before .before .before .before .pre .1, p .destination-on, p .destination-free)
+is-on-ring-requires c κs = let p = placed _ _ _ (places-none _ _ _ (c .enum-told .given .1) (c .before .before .check-places .ensures)) in (c .before .before .before .before .pre .0, c .before .before .before .before .pre .1, p .destination-on, p .destination-free)
 
 is-there-requires : tie.Need-is-there-requires
 is-there-requires c κs = search needs
@@ -33,7 +33,7 @@ returns-3 : tie.Need-returns-3
 returns-3 c = moves-arrived _ _ (places-none _ _ _ (c .before .before .before .before .enum-told .given .1) (c .before .before .before .before .before .before .check-places .ensures)) (sym (c .before .before .before .is-on-ring .ensures) ∙ c .before .if1 .left) (sym (c .before .before .is-there .ensures) ∙ c .if2 .taken)
 
 make-hop-requires : tie.Need-make-hop-requires
-make-hop-requires c κs = let p = placed _ _ _ (places-none _ _ _ (c .before .before .before .before .enum-told .given .1) (c .before .before .before .before .before .before .check-places .ensures)) in (c .before .before .before .before .before .before .before .before .before .before .pre .0, on-row _ _ (p .source-on), on-column _ _ (p .source-on), sym (c .before .before .is-there .ensures) ∙ c .if2 .left)
+make-hop-requires c κs = let p = placed _ _ _ (places-none _ _ _ (c .before .before .before .before .enum-told .given .1) (c .before .before .before .before .before .before .check-places .ensures)) in (c .before .before .before .before .before .before .before .before .pre .0, on-row _ _ (p .source-on), on-column _ _ (p .source-on), sym (c .before .before .is-there .ensures) ∙ c .if2 .left)
 
 returns-4 : tie.Need-returns-4
 returns-4 c = moves-next _ _ (places-none _ _ _ (c .before .before .before .before .before .enum-told .given .1) (c .before .before .before .before .before .before .before .check-places .ensures)) (sym (c .before .before .before .before .is-on-ring .ensures) ∙ c .before .before .if1 .left) (c .make-hop .ensures)
