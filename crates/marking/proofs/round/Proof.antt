@@ -1,39 +1,53 @@
--- The rows before this one are done. Assumes nothing.
-use mathlib.Core.Path.{sym, _∙_}
-use Prim.Native.Nat.{_*_, _≤_, _-_}
+-- The due rows before this one are done. Assumes nothing.
+use borrow.Author.Needs.{needs}
+use mathlib.Core.Path.{_≡_, refl, sym, ap, _∙_}
+use mathlib.Core.Logic.{⊎-elim}
+use Prim.Native.Nat.{_+_, _*_, _≤_, _<_, _-_}
 use native.Mathlib.Omega.{arith}
+use lib.ListN.{length, length-set}
 use Rattle.mesh.specs.Mesh.{mesh}
-use Rattle.marking.specs.Rounds.{Advanced}
-use Rattle.marking.proofs.Rounds.{advanced-none, advanced-all}
+use Rattle.mesh.proofs.Index.{few-nodes}
+use Rattle.maps.proofs.Lookup.{at-fits}
+use Rattle.block_theory.proofs.Marking.{safe}
+use Rattle.marking.specs.Rounds.{RowAfter, DueAfter, Copied, RowCopied, Spread}
+use Rattle.marking.proofs.Copy.{copied-none, copied-same, copied-differ, copied-all}
+use Rattle.marking.proofs.Rows.{Copying, row-fits, row-none, row-more, due-none, due-row, due-not, row-done, no-south, near-north, near-none, copying-none, copying-changed, copying-same, copying-all, spread-none, spread-more, others-settled}
+use Rattle.marking.proofs.Rounds.{Settling, bit, settling-start, settling-more, settling-less}
 use Rattle.marking.proofs.round.Statement.{statement}
 use Rattle.marking.proofs.round.Tie as tie
 
 abbrev Inv-loop : tie.InvT-loop
-Inv-loop columns rows map next₀ row₀ next row = (row ≤ rows) × Advanced (mesh columns rows map) (row * columns) next
+Inv-loop columns rows map due next₀ row₀ next row = (row ≤ rows) × (length next ≡ length next₀) × DueAfter (mesh columns rows map) due row next
 
 abbrev μ-loop : tie.MeasureT-loop
-μ-loop columns rows map next₀ row₀ next row = rows - row
+μ-loop columns rows map due next₀ row₀ next row = rows - row
 
 loop-holds : tie.Need-loop-holds Inv-loop μ-loop
-loop-holds c = (omega arith, advanced-none _ _ _ (omega arith) (c .before .before .pre .1 ∙ c .before .before .pre .0 .size))
+loop-holds c = (omega arith, refl, due-none _ _ _)
+
+cast-if1 : tie.Need-cast-if1 Inv-loop μ-loop
+cast-if1 c = omega (arith, c .before .before .before .before .before .pre .0 .few-rows)
+
+shared-slice-read-if1 : tie.Need-shared-slice-read-if1 Inv-loop μ-loop
+shared-slice-read-if1 c = omega arith
 
 round-row-requires : tie.Need-round-row-requires Inv-loop μ-loop
-round-row-requires c κs = (c .before .before .before .before .before .pre .0, c .before .loop-test .taken, c .before .before .loop .inv .1)
+round-row-requires c κs = (c .before .before .before .before .before .before .before .before .pre .0, c .before .before .before .loop-test .taken, omega arith)
 
 add-row : tie.Need-add-row Inv-loop μ-loop
-add-row c = omega (arith, c .before .before .before .before .before .before .before .before .pre .0 .few-rows)
+add-row c = omega (arith, c .before .before .before .before .before .before .before .pre .0 .few-rows)
 
 loop-less : tie.Need-loop-less Inv-loop μ-loop
 loop-less c = omega arith
 
 loop-again : tie.Need-loop-again Inv-loop μ-loop
-loop-again c = (omega arith, c .before .before .round-row .ensures)
+loop-again c = (omega arith, ⊎-elim (λ w. ap length (w .5) ∙ w .2 .ensures .size ∙ c .before .before .before .loop .inv .1) (λ w. ap length (w .1) ∙ c .before .before .before .loop .inv .1) (c .if1 .came), ⊎-elim (λ w. rw (w .5) (due-row _ _ _ _ (c .before .before .before .loop .inv .2) (w .2 .ensures))) (λ w. rw (w .1) (due-not _ _ _ _ (c .before .before .before .loop .inv .2) (w .0 .left))) (c .if1 .came))
 
 same-length : tie.Need-same-length Inv-loop μ-loop
-same-length c = c .before .loop .inv .1 .size ∙ sym (c .before .before .before .before .pre .1 ∙ c .before .before .before .before .pre .0 .size)
+same-length c = omega arith
 
 returns : tie.Need-returns Inv-loop μ-loop
-returns c = advanced-all _ _ _ (c .before .before .before .before .pre .0 .size) (c .before .loop .inv .1) (omega arith)
+returns c = let e : c .before .loop .row ≡ c .before .before .before .before .before .args .rows = omega arith in rw e at (c .before .loop .inv .2)
 
 pub round-spec : {M : Type 1} → statement M
 round-spec =
@@ -42,6 +56,8 @@ round-spec =
     Inv-loop
     μ-loop
     loop-holds
+    cast-if1
+    shared-slice-read-if1
     round-row-requires
     add-row
     loop-less

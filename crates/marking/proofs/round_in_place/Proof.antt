@@ -1,13 +1,39 @@
--- The round, copied back. Assumes nothing.
+-- The due rows, made and copied. Assumes nothing.
+use borrow.Author.Needs.{needs}
+use mathlib.Core.Path.{_≡_, refl, sym, ap, _∙_}
+use mathlib.Core.Logic.{⊎-elim}
+use Prim.Native.Nat.{_+_, _*_, _≤_, _<_, _-_}
+use native.Mathlib.Omega.{arith}
+use lib.ListN.{length, length-set}
+use Rattle.mesh.specs.Mesh.{mesh}
+use Rattle.mesh.proofs.Index.{few-nodes}
+use Rattle.maps.proofs.Lookup.{at-fits}
+use Rattle.block_theory.proofs.Marking.{safe}
+use Rattle.marking.specs.Rounds.{RowAfter, DueAfter, Copied, RowCopied, Spread}
+use Rattle.marking.proofs.Copy.{copied-none, copied-same, copied-differ, copied-all}
+use Rattle.marking.proofs.Rows.{Copying, row-fits, row-none, row-more, due-none, due-row, due-not, row-done, no-south, near-north, near-none, copying-none, copying-changed, copying-same, copying-all, spread-none, spread-more, others-settled}
+use Rattle.marking.proofs.Rounds.{Settling, bit, settling-start, settling-more, settling-less}
 use borrow.Author.Needs.{needs}
 use Rattle.marking.proofs.round_in_place.Statement.{statement}
 use Rattle.marking.proofs.round_in_place.Tie as tie
 
+slice-aggregate-spread : tie.Need-slice-aggregate-spread
+slice-aggregate-spread c = search needs
+
+spread-requires : tie.Need-spread-requires
+spread-requires c κs = search needs
+
+slice-aggregate-round : tie.Need-slice-aggregate-round
+slice-aggregate-round c = search needs
+
 round-requires : tie.Need-round-requires
 round-requires c κs = search needs
 
-copy-over-requires : tie.Need-copy-over-requires
-copy-over-requires c κs = search needs
+slice-aggregate-copy-round : tie.Need-slice-aggregate-copy-round
+slice-aggregate-copy-round c = search needs
+
+copy-round-requires : tie.Need-copy-round-requires
+copy-round-requires c κs = (c .before .before .before .before .before .before .before .before .before .before .before .before .before .before .before .before .before .pre .0, c .before .before .before .before .before .before .before .before .before .before .before .before .before .before .before .before .before .pre .2, search needs, search needs, c .before .before .before .before .before .before .round .ensures, others-settled (c .before .before .before .before .before .before .before .before .before .before .before .before .before .before .before .before .before .pre .3) (c .before .before .before .before .before .before .before .before .before .before .before .spread .ensures))
 
 same-length : tie.Need-same-length
 same-length c = search needs
@@ -15,9 +41,23 @@ same-length c = search needs
 same-length-2 : tie.Need-same-length-2
 same-length-2 c = search needs
 
+same-length-3 : tie.Need-same-length-3
+same-length-3 c = search needs
+
 returns : tie.Need-returns
-returns c = rw (c .before .before .before .before .before .before .before .round .ensures) at (c .before .before .copy-over .ensures)
+returns c = search needs
 
 pub round-in-place-spec : {M : Type 1} → statement M
 round-in-place-spec =
-    tie.close (tie.spec round-requires copy-over-requires same-length same-length-2 returns)
+    tie.close
+    (tie.spec
+    slice-aggregate-spread
+    spread-requires
+    slice-aggregate-round
+    round-requires
+    slice-aggregate-copy-round
+    copy-round-requires
+    same-length
+    same-length-2
+    same-length-3
+    returns)

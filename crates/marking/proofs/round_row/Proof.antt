@@ -1,25 +1,32 @@
 -- The row's nodes before this column are done. Assumes nothing.
-use mathlib.Core.Path.{sym, _∙_}
-use Prim.Native.Nat.{_+_, _*_, _≤_, _-_}
+use borrow.Author.Needs.{needs}
+use mathlib.Core.Path.{_≡_, refl, sym, ap, _∙_}
+use mathlib.Core.Logic.{⊎-elim}
+use Prim.Native.Nat.{_+_, _*_, _≤_, _<_, _-_}
 use native.Mathlib.Omega.{arith}
+use lib.ListN.{length, length-set}
 use Rattle.mesh.specs.Mesh.{mesh}
+use Rattle.mesh.proofs.Index.{few-nodes}
 use Rattle.maps.proofs.Lookup.{at-fits}
-use Rattle.marking.specs.Rounds.{Advanced}
-use Rattle.marking.proofs.Rounds.{advanced-more, row-start, row-end, row-fits}
+use Rattle.block_theory.proofs.Marking.{safe}
+use Rattle.marking.specs.Rounds.{RowAfter, DueAfter, Copied, RowCopied, Spread}
+use Rattle.marking.proofs.Copy.{copied-none, copied-same, copied-differ, copied-all}
+use Rattle.marking.proofs.Rows.{Copying, row-fits, row-none, row-more, due-none, due-row, due-not, row-done, no-south, near-north, near-none, copying-none, copying-changed, copying-same, copying-all, spread-none, spread-more, others-settled}
+use Rattle.marking.proofs.Rounds.{Settling, bit, settling-start, settling-more, settling-less}
 use Rattle.marking.proofs.round_row.Statement.{statement}
 use Rattle.marking.proofs.round_row.Tie as tie
 
 abbrev Inv-loop : tie.InvT-loop
-Inv-loop columns rows map next₀ row start column₀ next column = (column ≤ columns) × Advanced (mesh columns rows map) (row * columns + column) next
+Inv-loop columns rows map next₀ row start column₀ next column = (column ≤ columns) × RowAfter (mesh columns rows map) row column next₀ next
 
 abbrev μ-loop : tie.MeasureT-loop
 μ-loop columns rows map next₀ row start column₀ next column = columns - column
 
 mul-start : tie.Need-mul-start Inv-loop μ-loop
-mul-start c = omega (arith, row-fits _ _ _ (c .before .before .pre .0 .few-columns) (c .before .before .pre .0 .few-rows) (c .before .before .pre .1))
+mul-start c = let h = row-fits (c .before .before .pre .0) (c .before .before .pre .1) in omega arith
 
 loop-holds : tie.Need-loop-holds Inv-loop μ-loop
-loop-holds c = (omega arith, row-start _ _ _ (c .before .before .pre .2))
+loop-holds c = (omega arith, row-none _ _ _)
 
 add-at : tie.Need-add-at Inv-loop μ-loop
 add-at c = let h = at-fits _ _ _ _ _ (c .before .before .before .before .pre .0) (c .before .before .before .before .pre .1) (c .loop-test .taken) in omega arith
@@ -31,7 +38,7 @@ cast-next : tie.Need-cast-next Inv-loop μ-loop
 cast-next c = let h = at-fits _ _ _ _ _ (c .before .before .before .before .before .pre .0) (c .before .before .before .before .before .pre .1) (c .before .loop-test .taken) in omega arith
 
 slice-write-next : tie.Need-slice-write-next Inv-loop μ-loop
-slice-write-next c = let h = at-fits _ _ _ _ _ (c .before .before .before .before .before .pre .0) (c .before .before .before .before .before .pre .1) (c .before .loop-test .taken) in omega (arith, c .before .before .before .before .before .pre .0 .size, c .before .before .loop .inv .1 .size)
+slice-write-next c = let h = at-fits _ _ _ _ _ (c .before .before .before .before .before .pre .0) (c .before .before .before .before .before .pre .1) (c .before .loop-test .taken) in omega (arith, c .before .before .loop .inv .1 .size)
 
 add-column : tie.Need-add-column Inv-loop μ-loop
 add-column c = omega (arith, c .before .before .before .before .before .pre .0 .few-columns)
@@ -40,13 +47,13 @@ loop-less : tie.Need-loop-less Inv-loop μ-loop
 loop-less c = omega arith
 
 loop-again : tie.Need-loop-again Inv-loop μ-loop
-loop-again c = (omega arith, advanced-more _ _ _ _ _ (c .before .before .loop .inv .1) (c .before .before .before .before .before .pre .1) (c .before .loop-test .taken) (c .node .ensures))
+loop-again c = (omega arith, row-more _ _ _ _ _ _ (c .before .before .loop .inv .1) (let h = at-fits _ _ _ _ _ (c .before .before .before .before .before .pre .0) (c .before .before .before .before .before .pre .1) (c .before .loop-test .taken) in omega (arith, c .before .before .loop .inv .1 .size)) (c .node .ensures))
 
 same-length : tie.Need-same-length Inv-loop μ-loop
-same-length c = c .before .loop .inv .1 .size ∙ sym (c .before .before .before .before .pre .2 .size)
+same-length c = c .before .loop .inv .1 .size
 
 returns : tie.Need-returns Inv-loop μ-loop
-returns c = row-end _ _ _ _ (omega arith) (c .before .loop .inv .1)
+returns c = let e : c .before .loop .column ≡ c .before .before .before .before .args .columns = omega arith in rw e at (c .before .loop .inv .1)
 
 pub round-row-spec : {M : Type 1} → statement M
 round-row-spec =
