@@ -3,16 +3,16 @@ use mathlib.Core.Path.{_≡_, refl, _∙_}
 use mathlib.Core.Logic.{inl, inr}
 use mathlib.Core.Bool.{Bool, true, false}
 use mathlib.Core.List.{List}
-use Prim.Native.Nat.{ℕ, _+_, _<_}
+use Prim.Native.Nat.{ℕ, _+_, _≤_, _<_}
 use native.Mathlib.Omega.{arith}
-use lib.ListN.{getD, replicate, getD-replicate}
+use lib.ListN.{replicate, getD-replicate}
 use Rattle.mesh.specs.Mesh.{mesh}
-use Rattle.mesh.specs.Blocks.{round, marked}
+use Rattle.mesh.specs.Blocks.{marked}
 use Rattle.mesh.proofs.Bools.{true-false, value}
 use Rattle.block_theory.proofs.Marking.{round-length, safe, round-less, marked-round, marked-reached}
 use Rattle.maps.specs.Sized.{Sized}
 use Rattle.marking.specs.Rounds.{Rounded, QuietSettled}
-use Rattle.marking.proofs.Rows.{quiet-settled}
+use Rattle.marking.proofs.Settled.{quiet-settled}
 
 -- rounds from xs have come to now; changed and any say which rows the last one changed, and whether any
 pub record Settling (columns rows : ℕ) (xs : List ℕ) (any : Bool) (changed now : List ℕ) : Type 0 where
@@ -25,7 +25,7 @@ pub bit : Bool → ℕ
 bit true = 1
 bit false = 0
 
-pub settling-start : (columns rows n : ℕ) (xs : List ℕ) → Sized columns rows xs → rows < n + 1 → Settling columns rows xs true (replicate n 1) xs
+pub settling-start : (columns rows n : ℕ) (xs : List ℕ) → Sized columns rows xs → rows ≤ n → Settling columns rows xs true (replicate n 1) xs
 settling-start columns rows n xs s h =
     record {
       sized = s;

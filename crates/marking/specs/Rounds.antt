@@ -39,7 +39,7 @@ pub record RowCopied (columns r : ℕ) (next due out : List ℕ) (changed : Bool
 pub record Settled (w : Mesh) (r : ℕ) : Type 0 where
   pub rests : (c : ℕ) → c < w .columns → nodeAfter w r c ≡ getD (w .map) (r * w .columns + c) 0
 
--- a round changes rows that are due only
+-- a round changes no row that is not due
 pub record OthersSettled (w : Mesh) (due : List ℕ) : Type 0 where
   pub settled : (r : ℕ) → r < w .rows → getD due r 0 ≡ 0 → Settled w r
 
@@ -47,10 +47,11 @@ pub record OthersSettled (w : Mesh) (due : List ℕ) : Type 0 where
 pub record Rounded (w : Mesh) (any : Bool) (changed now : List ℕ) : Type 0 where
   pub copy : now ≡ round w
   pub rows : (r : ℕ) → r < w .rows → getD changed r 0 ≡ 0 → Settled w r
+  pub others : (r : ℕ) → r < w .rows → Settled w r → getD changed r 0 ≡ 0
   pub same : any ≡ false → round w ≡ w .map
   pub differ : any ≡ true → round w ≡ w .map → ⊥
 
--- neither row r nor a row beside it changed; row 0 stands for the row south of it
+-- neither row r nor a row beside it changed; south of row 0 stands row 0 itself
 pub record Quiet (rows : ℕ) (changed : List ℕ) (r : ℕ) : Type 0 where
   pub here : getD changed r 0 ≡ 0
   pub south : getD changed (r - 1) 0 ≡ 0

@@ -132,7 +132,14 @@ fn copy_row(columns: u32, rows: u32, next: &[u8], due: &[u8], out: &mut [u8], r:
 }
 
 // Copies the due rows; says of each row and of them all whether that changes anything.
-fn copy_round(columns: u32, rows: u32, next: &[u8], due: &[u8], changed: &mut [u8], out: &mut [u8]) -> bool
+fn copy_round(
+    columns: u32,
+    rows: u32,
+    next: &[u8],
+    due: &[u8],
+    changed: &mut [u8],
+    out: &mut [u8],
+) -> bool
     requires { ⌜ Sized columns rows (now out) × (rows ≤ length (now changed)) × (rows ≤ length (now due)) × (length (now out) ≤ length (now next)) × DueAfter (mesh columns rows (now out)) (now due) rows (now next) × OthersSettled (mesh columns rows (now out)) (now due) ⌝ }
     ensures { λ x. ⌜ Rounded (mesh columns rows (now (out .entry))) x (now (changed .exit)) (now (out .exit)) ⌝ }
 {
@@ -150,7 +157,7 @@ fn copy_round(columns: u32, rows: u32, next: &[u8], due: &[u8], changed: &mut [u
     any
 }
 
-// 0 if neither row r nor a row beside it changed.
+// 0 exactly if neither row r nor a row beside it changed.
 fn near(rows: u32, changed: &[u8], r: Row) -> u8
     requires { ⌜ (rows ≤ 64) × (rows ≤ length (now changed)) × (r .0 < rows) ⌝ }
     ensures { λ x. ⌜ Near rows (now (changed .entry)) (r .0) x ⌝ }
@@ -171,7 +178,7 @@ fn near(rows: u32, changed: &[u8], r: Row) -> u8
     0
 }
 
-// Finds the rows that are due in the next round: those that it may change.
+// Finds the rows that are due in the next round: no other can change.
 fn spread(rows: u32, changed: &[u8], due: &mut [u8])
     requires { ⌜ (rows ≤ 64) × (rows ≤ length (now changed)) × (rows ≤ length (now due)) ⌝ }
     ensures { λ _. ⌜ Spread rows (now (changed .entry)) rows (now (due .exit)) ⌝ }
@@ -183,8 +190,15 @@ fn spread(rows: u32, changed: &[u8], due: &mut [u8])
     }
 }
 
-// One round in place, by way of next, of the rows near a changed one; says of each row and of them all whether it changes anything.
-fn round_in_place(columns: u32, rows: u32, out: &mut [u8], next: &mut [u8], changed: &mut [u8]) -> bool
+// One round in place, by way of next: only the rows near one that changed in the last round are looked at.
+// Says of each row and of them all whether it changes anything.
+fn round_in_place(
+    columns: u32,
+    rows: u32,
+    out: &mut [u8],
+    next: &mut [u8],
+    changed: &mut [u8],
+) -> bool
     requires { ⌜ Sized columns rows (now out) × (length (now out) ≤ length (now next)) × (rows ≤ length (now changed)) × QuietSettled (mesh columns rows (now out)) (now changed) ⌝ }
     ensures { λ x. ⌜ Rounded (mesh columns rows (now (out .entry))) x (now (changed .exit)) (now (out .exit)) ⌝ }
 {

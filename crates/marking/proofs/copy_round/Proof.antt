@@ -1,18 +1,11 @@
 -- The rows before this one are copied. Assumes nothing.
-use borrow.Author.Needs.{needs}
-use mathlib.Core.Path.{_≡_, refl, sym, ap, _∙_}
+use mathlib.Core.Path.{_≡_, refl, _∙_}
 use mathlib.Core.Logic.{⊎-elim}
-use Prim.Native.Nat.{_+_, _*_, _≤_, _<_, _-_}
+use Prim.Native.Nat.{_≤_, _-_}
 use native.Mathlib.Omega.{arith}
 use lib.ListN.{length, length-set}
 use Rattle.mesh.specs.Mesh.{mesh}
-use Rattle.mesh.proofs.Index.{few-nodes}
-use Rattle.maps.proofs.Lookup.{at-fits}
-use Rattle.block_theory.proofs.Marking.{safe}
-use Rattle.marking.specs.Rounds.{RowAfter, DueAfter, Copied, RowCopied, Spread}
-use Rattle.marking.proofs.Copy.{copied-none, copied-same, copied-differ, copied-all}
-use Rattle.marking.proofs.Rows.{Copying, row-fits, row-none, row-more, due-none, due-row, due-not, row-done, no-south, near-north, near-none, copying-none, copying-changed, copying-same, copying-all, spread-none, spread-more, others-settled}
-use Rattle.marking.proofs.Rounds.{Settling, bit, settling-start, settling-more, settling-less}
+use Rattle.marking.proofs.Copying.{Copying, row-done, copying-none, copying-changed, copying-same, copying-all}
 use Rattle.marking.proofs.copy_round.Statement.{statement}
 use Rattle.marking.proofs.copy_round.Tie as tie
 
@@ -47,7 +40,7 @@ loop-less : tie.Need-loop-less Inv-loop μ-loop
 loop-less c = omega arith
 
 loop-again : tie.Need-loop-again Inv-loop μ-loop
-loop-again c = (omega arith, ⊎-elim (λ w. rw (w .1, length-set) (c .before .before .before .before .before .before .loop .inv .1)) (λ w. rw (w .1, length-set) (c .before .before .before .before .before .before .loop .inv .1)) (c .if1 .came), c .before .before .before .copy-row .kept .1 .1 .1 .1 .0 ∙ c .before .before .before .before .before .before .loop .inv .2, let done = row-done (c .before .before .before .before .before .before .loop .inv .3) (c .before .before .before .before .before .loop-test .taken) (c .before .before .before .before .before .before .before .before .before .before .before .pre .4) (c .before .before .before .before .before .before .before .before .before .before .before .pre .5) (c .before .before .before .copy-row .ensures) in ⊎-elim (λ w. rw (w .1) (copying-changed (c .before .before .before .before .before .before .loop .inv .3) (c .before .before .before .before .before .loop-test .taken) done (omega arith) (w .0 .taken) (w .2))) (λ w. rw (w .1) (copying-same (c .before .before .before .before .before .before .loop .inv .3) (c .before .before .before .before .before .loop-test .taken) done (w .0 .left) (w .2))) (c .if1 .came))
+loop-again c = (omega arith, ⊎-elim (λ w. rw (w .1, length-set) (c .before .before .before .before .before .before .loop .inv .1)) (λ w. rw (w .1, length-set) (c .before .before .before .before .before .before .loop .inv .1)) (c .if1 .came), c .before .before .before .copy-row .kept .1 .1 .1 .1 .0 ∙ c .before .before .before .before .before .before .loop .inv .2, let done = row-done (c .before .before .before .before .before .before .loop .inv .3) (c .before .before .before .before .before .loop-test .taken) (c .before .before .before .before .before .before .before .before .before .before .before .pre .4) (c .before .before .before .before .before .before .before .before .before .before .before .pre .5) (c .before .before .before .copy-row .ensures) in ⊎-elim (λ w. rw (w .1) (copying-changed (c .before .before .before .before .before .before .loop .inv .3) (c .before .before .before .before .before .loop-test .taken) done (omega arith) (w .0 .taken) (w .2))) (λ w. rw (w .1) (copying-same (c .before .before .before .before .before .before .loop .inv .3) (c .before .before .before .before .before .loop-test .taken) done (omega arith) (w .0 .left) (w .2))) (c .if1 .came))
 
 same-length : tie.Need-same-length Inv-loop μ-loop
 same-length c = omega arith

@@ -1,17 +1,10 @@
 -- Each round leaves the marking to come as it is. Assumes nothing.
-use borrow.Author.Needs.{needs}
-use mathlib.Core.Path.{_≡_, refl, sym, ap, _∙_}
-use mathlib.Core.Logic.{⊎-elim}
-use Prim.Native.Nat.{_+_, _*_, _≤_, _<_, _-_}
+use mathlib.Core.Path.{_≡_, refl, sym, _∙_}
+use Prim.Native.Nat.{_+_}
 use native.Mathlib.Omega.{arith}
-use lib.ListN.{length, length-set}
-use Rattle.mesh.specs.Mesh.{mesh}
+use lib.ListN.{length}
 use Rattle.mesh.proofs.Index.{few-nodes}
-use Rattle.maps.proofs.Lookup.{at-fits}
 use Rattle.block_theory.proofs.Marking.{safe}
-use Rattle.marking.specs.Rounds.{RowAfter, DueAfter, Copied, RowCopied, Spread}
-use Rattle.marking.proofs.Copy.{copied-none, copied-same, copied-differ, copied-all}
-use Rattle.marking.proofs.Rows.{Copying, row-fits, row-none, row-more, due-none, due-row, due-not, row-done, no-south, near-north, near-none, copying-none, copying-changed, copying-same, copying-all, spread-none, spread-more, others-settled}
 use Rattle.marking.proofs.Rounds.{Settling, bit, settling-start, settling-more, settling-less}
 use Rattle.marking.proofs.settle.Statement.{statement}
 use Rattle.marking.proofs.settle.Tie as tie
