@@ -30,7 +30,7 @@ same-length c = search needs
 
 returns : tie.Need-returns
 unfolding numbersOf
-returns c = rw (← (c .last-number .ensures)) (filled (c .before .before .before .before .before .before .before .before .args .xs .now) _ _ _ _ _ (c .before .before .before .before .before .before .before .before .pre))
+returns c = rw (← (c .last-number .ensures)) (filled (c .before .before .args .xs .now) _ _ _ _ _ (c .before .before .pre))
 
 pub write-packet-spec : {M : Type 1} → statement M
 write-packet-spec =
