@@ -1,8 +1,2 @@
-pub mod Rules
-pub mod Copy
-pub mod Settled
-pub mod Rows
-pub mod Copying
-pub mod Rounds
 pub mod Corners
 pub mod Marks

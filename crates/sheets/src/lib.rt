@@ -16,7 +16,6 @@ use maps::has_misplaced;
 use maps::is_bad_size;
 use maps::refusal_number;
 use marking::count_blocks;
-use marking::mark;
 use mesh::Place;
 use mesh::Routed;
 use prints::put_bad_line;
@@ -24,6 +23,7 @@ use prints::put_blocks;
 use prints::put_no;
 use prints::put_ok;
 use route::route_marked;
+use rounds::mark;
 use words::Command;
 use words::read_command;
 

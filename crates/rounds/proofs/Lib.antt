@@ -1,0 +1,6 @@
+pub mod Rules
+pub mod Copy
+pub mod Settled
+pub mod Rows
+pub mod Copying
+pub mod Rounds

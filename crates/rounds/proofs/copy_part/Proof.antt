@@ -1,0 +1,63 @@
+-- The numbers before i are copied. Assumes nothing.
+use mathlib.Core.Path.{_≡_, refl}
+use mathlib.Core.Logic.{⊎-elim}
+use Prim.Native.Nat.{_≤_, _-_}
+use native.Mathlib.Omega.{arith}
+use lib.ListN.{length, length-set}
+use Rattle.rounds.specs.Rounds.{Copied}
+use Rattle.rounds.proofs.Copy.{copied-none, copied-same, copied-differ}
+use Rattle.rounds.proofs.copy_part.Statement.{statement}
+use Rattle.rounds.proofs.copy_part.Tie as tie
+
+abbrev Inv-loop : tie.InvT-loop
+Inv-loop from to₀ start end changed₀ i₀ to changed i = (start ≤ i) × (i ≤ end) × (length to ≡ length to₀) × Copied from to₀ start i changed to
+
+abbrev μ-loop : tie.MeasureT-loop
+μ-loop from to₀ start end changed₀ i₀ to changed i = end - i
+
+loop-holds : tie.Need-loop-holds Inv-loop μ-loop
+loop-holds c = (omega arith, c .pre .0, refl, copied-none _ _ _)
+
+shared-slice-read-if1 : tie.Need-shared-slice-read-if1 Inv-loop μ-loop
+shared-slice-read-if1 c = omega arith
+
+slice-read-if1 : tie.Need-slice-read-if1 Inv-loop μ-loop
+slice-read-if1 c = omega arith
+
+shared-slice-read-to : tie.Need-shared-slice-read-to Inv-loop μ-loop
+shared-slice-read-to c = omega arith
+
+slice-write-to : tie.Need-slice-write-to Inv-loop μ-loop
+slice-write-to c = omega arith
+
+add-i : tie.Need-add-i Inv-loop μ-loop
+add-i c = omega arith
+
+loop-less : tie.Need-loop-less Inv-loop μ-loop
+loop-less c = omega arith
+
+loop-again : tie.Need-loop-again Inv-loop μ-loop
+loop-again c = (omega arith, omega arith, simp length-set (omega arith), ⊎-elim (λ w. copied-differ _ _ _ _ _ (c .before .before .before .before .before .loop .inv .3) (c .before .before .before .before .before .loop .inv .0) (omega arith) (w .0 .taken) (w .1)) (λ w. copied-same _ _ _ _ _ (c .before .before .before .before .before .loop .inv .3) (c .before .before .before .before .before .loop .inv .0) (omega arith) (w .0 .left) (w .1)) (c .before .if1 .came))
+
+same-length : tie.Need-same-length Inv-loop μ-loop
+same-length c = omega arith
+
+returns : tie.Need-returns Inv-loop μ-loop
+returns c = let e : c .before .loop .i ≡ c .before .before .args .end = omega arith in rw e at (c .before .loop .inv .3)
+
+pub copy-part-spec : {M : Type 1} → statement M
+copy-part-spec =
+    tie.close
+    (tie.spec
+    Inv-loop
+    μ-loop
+    loop-holds
+    shared-slice-read-if1
+    slice-read-if1
+    shared-slice-read-to
+    slice-write-to
+    add-i
+    loop-less
+    loop-again
+    same-length
+    returns)

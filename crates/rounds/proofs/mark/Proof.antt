@@ -1,0 +1,24 @@
+-- The map copied, then the rounds. Assumes nothing.
+use borrow.Author.Needs.{needs}
+use mathlib.Core.Path.{ap, _∙_}
+use native.Mathlib.Omega.{arith}
+use Rattle.mesh.specs.Mesh.{mesh}
+use Rattle.mesh.specs.Blocks.{marked}
+use Rattle.rounds.proofs.Copy.{copied-all}
+use Rattle.rounds.proofs.mark.Statement.{statement}
+use Rattle.rounds.proofs.mark.Tie as tie
+
+copy-part-requires : tie.Need-copy-part-requires
+copy-part-requires c κs = (omega arith, omega arith, omega arith)
+
+settle-requires : tie.Need-settle-requires
+settle-requires c κs = search needs
+
+same-length : tie.Need-same-length
+same-length c = search needs
+
+returns : tie.Need-returns
+returns c = c .before .before .settle .ensures ∙ ap (λ m. marked (mesh (c .before .before .before .before .before .before .before .before .before .before .args .columns) (c .before .before .before .before .before .before .before .before .before .before .args .rows) m) .map) (copied-all _ _ _ _ (c .before .before .before .before .before .before .before .before .before .before .pre .1) (c .before .before .before .before .before .before .copy-part .ensures))
+
+pub mark-spec : {M : Type 1} → statement M
+mark-spec = tie.close (tie.spec copy-part-requires settle-requires same-length returns)

@@ -1,0 +1,60 @@
+-- The due rows before this one are done. Assumes nothing.
+use mathlib.Core.Path.{_≡_, refl, ap, _∙_}
+use mathlib.Core.Logic.{⊎-elim}
+use Prim.Native.Nat.{_≤_, _-_}
+use native.Mathlib.Omega.{arith}
+use lib.ListN.{length}
+use Rattle.mesh.specs.Mesh.{mesh}
+use Rattle.rounds.specs.Rounds.{DueAfter}
+use Rattle.rounds.proofs.Rows.{due-none, due-row, due-not}
+use Rattle.rounds.proofs.round.Statement.{statement}
+use Rattle.rounds.proofs.round.Tie as tie
+
+abbrev Inv-loop : tie.InvT-loop
+Inv-loop columns rows map due next₀ row₀ next row = (row ≤ rows) × (length next ≡ length next₀) × DueAfter (mesh columns rows map) due row next
+
+abbrev μ-loop : tie.MeasureT-loop
+μ-loop columns rows map due next₀ row₀ next row = rows - row
+
+loop-holds : tie.Need-loop-holds Inv-loop μ-loop
+loop-holds c = (omega arith, refl, due-none _ _ _)
+
+cast-if1 : tie.Need-cast-if1 Inv-loop μ-loop
+cast-if1 c = omega (arith, c .before .before .before .before .before .pre .0 .few-rows)
+
+shared-slice-read-if1 : tie.Need-shared-slice-read-if1 Inv-loop μ-loop
+shared-slice-read-if1 c = omega arith
+
+round-row-requires : tie.Need-round-row-requires Inv-loop μ-loop
+round-row-requires c κs = (c .before .before .before .before .before .before .before .before .pre .0, c .before .before .before .loop-test .taken, omega arith)
+
+add-row : tie.Need-add-row Inv-loop μ-loop
+add-row c = omega (arith, c .before .before .before .before .before .before .before .pre .0 .few-rows)
+
+loop-less : tie.Need-loop-less Inv-loop μ-loop
+loop-less c = omega arith
+
+loop-again : tie.Need-loop-again Inv-loop μ-loop
+loop-again c = (omega arith, ⊎-elim (λ w. ap length (w .5) ∙ w .2 .ensures .size ∙ c .before .before .before .loop .inv .1) (λ w. ap length (w .1) ∙ c .before .before .before .loop .inv .1) (c .if1 .came), ⊎-elim (λ w. rw (w .5) (due-row _ _ _ _ (c .before .before .before .loop .inv .2) (w .2 .ensures))) (λ w. rw (w .1) (due-not _ _ _ _ (c .before .before .before .loop .inv .2) (w .0 .left))) (c .if1 .came))
+
+same-length : tie.Need-same-length Inv-loop μ-loop
+same-length c = omega arith
+
+returns : tie.Need-returns Inv-loop μ-loop
+returns c = let e : c .before .loop .row ≡ c .before .before .before .before .before .args .rows = omega arith in rw e at (c .before .loop .inv .2)
+
+pub round-spec : {M : Type 1} → statement M
+round-spec =
+    tie.close
+    (tie.spec
+    Inv-loop
+    μ-loop
+    loop-holds
+    cast-if1
+    shared-slice-read-if1
+    round-row-requires
+    add-row
+    loop-less
+    loop-again
+    same-length
+    returns)

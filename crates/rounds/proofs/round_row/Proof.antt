@@ -1,0 +1,67 @@
+-- The row's nodes before this column are done. Assumes nothing.
+use mathlib.Core.Path.{_≡_}
+use Prim.Native.Nat.{_≤_, _-_}
+use native.Mathlib.Omega.{arith}
+use Rattle.mesh.specs.Mesh.{mesh}
+use Rattle.maps.proofs.Lookup.{at-fits}
+use Rattle.rounds.specs.Rounds.{RowAfter}
+use Rattle.rounds.proofs.Rows.{row-fits, row-none, row-more}
+use Rattle.rounds.proofs.round_row.Statement.{statement}
+use Rattle.rounds.proofs.round_row.Tie as tie
+
+abbrev Inv-loop : tie.InvT-loop
+Inv-loop columns rows map next₀ row start column₀ next column = (column ≤ columns) × RowAfter (mesh columns rows map) row column next₀ next
+
+abbrev μ-loop : tie.MeasureT-loop
+μ-loop columns rows map next₀ row start column₀ next column = columns - column
+
+mul-start : tie.Need-mul-start Inv-loop μ-loop
+mul-start c = let h = row-fits (c .before .before .pre .0) (c .before .before .pre .1) in omega arith
+
+loop-holds : tie.Need-loop-holds Inv-loop μ-loop
+loop-holds c = (omega arith, row-none _ _ _)
+
+add-at : tie.Need-add-at Inv-loop μ-loop
+add-at c = let h = at-fits _ _ _ _ _ (c .before .before .before .before .pre .0) (c .before .before .before .before .pre .1) (c .loop-test .taken) in omega arith
+
+node-requires : tie.Need-node-requires Inv-loop μ-loop
+node-requires c κs = (c .before .before .before .before .pre .0, c .before .before .before .before .pre .1, c .loop-test .taken)
+
+cast-next : tie.Need-cast-next Inv-loop μ-loop
+cast-next c = let h = at-fits _ _ _ _ _ (c .before .before .before .before .before .pre .0) (c .before .before .before .before .before .pre .1) (c .before .loop-test .taken) in omega arith
+
+slice-write-next : tie.Need-slice-write-next Inv-loop μ-loop
+slice-write-next c = let h = at-fits _ _ _ _ _ (c .before .before .before .before .before .pre .0) (c .before .before .before .before .before .pre .1) (c .before .loop-test .taken) in omega (arith, c .before .before .loop .inv .1 .size)
+
+add-column : tie.Need-add-column Inv-loop μ-loop
+add-column c = omega (arith, c .before .before .before .before .before .pre .0 .few-columns)
+
+loop-less : tie.Need-loop-less Inv-loop μ-loop
+loop-less c = omega arith
+
+loop-again : tie.Need-loop-again Inv-loop μ-loop
+loop-again c = (omega arith, row-more _ _ _ _ _ _ (c .before .before .loop .inv .1) (let h = at-fits _ _ _ _ _ (c .before .before .before .before .before .pre .0) (c .before .before .before .before .before .pre .1) (c .before .loop-test .taken) in omega (arith, c .before .before .loop .inv .1 .size)) (c .node .ensures))
+
+same-length : tie.Need-same-length Inv-loop μ-loop
+same-length c = c .before .loop .inv .1 .size
+
+returns : tie.Need-returns Inv-loop μ-loop
+returns c = let e : c .before .loop .column ≡ c .before .before .before .before .args .columns = omega arith in rw e at (c .before .loop .inv .1)
+
+pub round-row-spec : {M : Type 1} → statement M
+round-row-spec =
+    tie.close
+    (tie.spec
+    Inv-loop
+    μ-loop
+    mul-start
+    loop-holds
+    add-at
+    node-requires
+    cast-next
+    slice-write-next
+    add-column
+    loop-less
+    loop-again
+    same-length
+    returns)
