@@ -22,8 +22,8 @@ use prints::put_bad_line;
 use prints::put_blocks;
 use prints::put_no;
 use prints::put_ok;
-use route::route_marked;
 use rounds::mark;
+use route::route_marked;
 use words::Command;
 use words::read_command;
 
