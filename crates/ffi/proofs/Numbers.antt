@@ -2,11 +2,10 @@
 use mathlib.Core.Path.{_≡_, refl, sym, _∙_, ap}
 use mathlib.Core.Bool.{true, false}
 use mathlib.Core.List.{List, [], _∷_}
-use Prim.Native.Nat.{ℕ, zero, suc, _≤_, _<_}
+use Prim.Native.Nat.{ℕ, _≤_, _<_}
 use native.Mathlib.Omega.{arith}
-use lib.Dec.{eqb, ltb}
 use lib.ListN.{length, set, getD}
-use borrow.Author.Tests.{eqb-true, ltb-true}
+use borrow.Author.Tests.{eqb-true}
 use Rattle.mesh.specs.declared.Marked.{Marked}
 use Rattle.mesh.specs.declared.Routed.{Routed}
 use Rattle.mesh.specs.declared.Judged.{Judged}
@@ -17,7 +16,7 @@ use Rattle.mesh.specs.Operations.{markedAnswer, MarksBlocks, routedAnswer, Rout
 use Rattle.mesh.specs.Moving.{movedTold, MovesOn}
 use Rattle.mesh.specs.Judging.{judgedVerdict, judgement}
 use Rattle.mesh.proofs.Bools.{and-both}
-use Rattle.ffi.specs.Codes.{answerCode, MarksInNumbers, RoutesInNumbers, verdictCode, verdictIndex, putFirst, JudgesInNumbers, toldCode, headingNumber, lastOf, lastNumber, isRecord, packetOf, numbersOf, MovesInNumbers}
+use Rattle.ffi.specs.Codes.{answerCode, MarksInNumbers, RoutesInNumbers, verdictCode, verdictIndex, putFirst, JudgesInNumbers, toldCode, isRecord, packetOf, numbersOf, MovesInNumbers}
 
 pub marks : {columns rows x : ℕ} {map out after : List ℕ} {r : Marked} → MarksBlocks columns rows map out r after → x ≡ answerCode (markedAnswer r) → MarksInNumbers columns rows map out x after
 marks m e = record { answers = e ∙ ap answerCode (m .answers); writes = m .writes }
@@ -47,7 +46,7 @@ unfolding isRecord
 record-length xs t = eqb-true _ _ (and-both t .0)
 
 -- a list of five numbers, by its numbers
-five : (xs : List ℕ) → length xs ≡ 5 → getD xs 0 0 ∷ getD xs 1 0 ∷ getD xs 2 0 ∷ getD xs 3 0 ∷ getD xs 4 0 ∷ [] ≡ xs
+pub five : (xs : List ℕ) → length xs ≡ 5 → getD xs 0 0 ∷ getD xs 1 0 ∷ getD xs 2 0 ∷ getD xs 3 0 ∷ getD xs 4 0 ∷ [] ≡ xs
 five [] h = absurd (omega arith)
 five (u ∷ []) h = absurd (omega arith)
 five (u ∷ v ∷ []) h = absurd (omega arith)
@@ -65,19 +64,3 @@ moves t ep m ea e =
 
 pub no-record : {columns rows : ℕ} {map xs : List ℕ} → isRecord xs ≡ false → MovesInNumbers columns rows map xs 65536 xs
 no-record f = record { answers = rw f refl; leaves = rw f refl }
-
-last-kept : (n : ℕ) → n < 5 → lastNumber (lastOf n) ≡ n
-unfolding lastNumber headingNumber lastOf
-last-kept zero h = refl
-last-kept (suc zero) h = refl
-last-kept (suc (suc zero)) h = refl
-last-kept (suc (suc (suc zero))) h = refl
-last-kept (suc (suc (suc (suc zero)))) h = refl
-last-kept (suc (suc (suc (suc (suc n))))) h = absurd (omega arith)
-
--- a record that is left unchanged is the same five numbers
-pub record-kept : (xs : List ℕ) → isRecord xs ≡ true → numbersOf (packetOf xs) ≡ xs
-unfolding packetOf numbersOf isRecord
-record-kept xs t =
-    let (n, l) = and-both {a = eqb (length xs) 5} {b = ltb (getD xs 2 0) 5} t in
-    rw (last-kept (getD xs 2 0) (ltb-true (getD xs 2 0) 5 l)) (five xs (eqb-true (length xs) 5 n))

@@ -103,4 +103,4 @@ on-small columns rows map p s on =
 
 -- what the first three refusals leave is what the last one asks
 pub sized : (columns rows : ℕ) (map : List ℕ) → badSize columns ≡ false → badSize rows ≡ false → badLength columns rows map ≡ false → Sized columns rows map
-sized columns rows map a b d = record { few-columns = good-size columns a .1; few-rows = good-size rows b .1; size = good-length columns rows map d }
+sized columns rows map a b d = record { few-columns = good-size columns a; few-rows = good-size rows b; size = good-length columns rows map d }

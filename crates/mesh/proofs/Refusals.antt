@@ -4,8 +4,7 @@ use mathlib.Core.Bool.{Bool, true, false, _&&_}
 use mathlib.Core.List.{List, [], _∷_}
 use Prim.Native.Nat.{ℕ, _+_, _*_, _/_, _%_, _≤_, _<_}
 use native.Mathlib.Nat.{zero-add}
-use native.Mathlib.Omega.{arith}
-use borrow.Author.Tests.{eqb-true, eqb-false, ltb-true, ltb-false, not-false}
+use borrow.Author.Tests.{eqb-true, ltb-true, ltb-false, not-false}
 use lib.Dec.{eqb, ltb}
 use lib.ListN.{length, getD}
 use Rattle.mesh.specs.declared.Refusal.{Refusal}
@@ -21,20 +20,15 @@ use Rattle.mesh.proofs.Index.{index-row, index-column, index-within}
 
 -- a mesh and a map that refusals 1 to 5 let pass
 pub record Accepted (columns rows : ℕ) (map : List ℕ) : Type 0 where
-  pub some-columns : 1 ≤ columns
   pub few-columns : columns ≤ 64
-  pub some-rows : 1 ≤ rows
   pub few-rows : rows ≤ 64
   pub size : length map ≡ columns * rows
   pub bytes : (i : ℕ) → i < length map → getD map i 0 ≤ 1
   pub placed : (r c : ℕ) → bad (mesh columns rows map) r c ≡ true → allowed columns rows r c ≡ true
 
-pub good-size : (n : ℕ) → badSize n ≡ false → (1 ≤ n) × (n ≤ 64)
+pub good-size : (n : ℕ) → badSize n ≡ false → n ≤ 64
 unfolding badSize
-good-size n e =
-    let (a, b) = or-none (eqb n 0) (ltb 64 n) e in
-    let z = eqb-false n 0 a in
-    (omega arith, ltb-false 64 n b)
+good-size n e = ltb-false 64 n (or-none (eqb n 0) (ltb 64 n) e .1)
 
 pub good-length : (columns rows : ℕ) (map : List ℕ) → badLength columns rows map ≡ false → length map ≡ columns * rows
 unfolding badLength
@@ -74,14 +68,10 @@ module _ (columns rows : ℕ) (map : List ℕ) where
   unfolding bad onMesh None tests
   accepted h =
       let (no-columns, (no-rows, (no-length, (no-bytes, (no-placed, _))))) = clear-none 0 tests in-a-row h in
-      let cs = good-size columns no-columns in
-      let rs = good-size rows no-rows in
       let size = good-length columns rows map no-length in
       record {
-        some-columns = cs .0;
-        few-columns = cs .1;
-        some-rows = rs .0;
-        few-rows = rs .1;
+        few-columns = good-size columns no-columns;
+        few-rows = good-size rows no-rows;
         size = size;
         bytes = good-bytes map no-bytes;
         placed =

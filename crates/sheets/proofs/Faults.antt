@@ -75,7 +75,7 @@ four-set {columns} {rows} {map} i f =
 
 pub four-nodes : {columns rows : ℕ} {map : List ℕ} → NoFour columns rows map → columns * rows ≤ 4096
 four-nodes {columns} {rows} f =
-    few-nodes columns rows (good-size columns (f .good-columns) .1) (good-size rows (f .good-rows) .1)
+    few-nodes columns rows (good-size columns (f .good-columns)) (good-size rows (f .good-rows))
 
 -- a line that ends the run, and leaves the sheet
 abbrev pub Ends : Sheet → Answered → List ℕ → ℕ → List ℕ → List ℕ → Type 0
@@ -127,7 +127,7 @@ module _ {p : Phase} {out : List ℕ} {at : ℕ} {x : Answered} {map after : Lis
 
 pub first-nodes : (columns rows : ℕ) {b d : Bool} → b ≡ badSize columns → b ≡ false → d ≡ badSize rows → d ≡ false → columns * rows ≤ 4096
 first-nodes columns rows e f g h =
-    few-nodes columns rows (good-size columns (sym e ∙ f) .1) (good-size rows (sym g ∙ h) .1)
+    few-nodes columns rows (good-size columns (sym e ∙ f)) (good-size rows (sym g ∙ h))
 
 pub first-cleared : (t : State) {columns rows : ℕ} {b d : Bool} {map out : List ℕ} {at : ℕ} → b ≡ badSize columns → b ≡ false → d ≡ badSize rows → d ≡ false → 4096 ≤ length map → Cleared (columns * rows) map → at ≤ length out → (number : ℕ) → StepsMap (meshLine Start number t columns rows) out at (record { sheet = record { phase = Faults; columns = columns; rows = rows }; at = at; ends = false }) map out
 unfolding meshLine

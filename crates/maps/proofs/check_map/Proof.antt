@@ -22,7 +22,7 @@ unfolding number checkedNumber mapRefusals
 returns-2 c = rw (sym (c .before .before .before .is-bad-size .ensures) ∙ c .before .before .if1 .left, sym (c .before .is-bad-size2 .ensures) ∙ c .if2 .taken)
 
 is-bad-length-requires : tie.Need-is-bad-length-requires
-is-bad-length-requires c κs = (good-size _ (sym (c .before .before .before .is-bad-size .ensures) ∙ c .before .before .if1 .left) .1, good-size _ (sym (c .before .is-bad-size2 .ensures) ∙ c .if2 .left) .1)
+is-bad-length-requires c κs = (good-size _ (sym (c .before .before .before .is-bad-size .ensures) ∙ c .before .before .if1 .left), good-size _ (sym (c .before .is-bad-size2 .ensures) ∙ c .if2 .left))
 
 returns-3 : tie.Need-returns-3
 unfolding number checkedNumber mapRefusals
