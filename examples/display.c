@@ -4,7 +4,7 @@
 
 #include "pinduguil.h"
 
-enum { COLUMNS = 10, ROWS = 8, ROOM = 24704 };
+enum { COLUMNS = 10, ROWS = 8, ROOM = 4034 };
 
 int main(void) {
     static uint8_t map[COLUMNS * ROWS], marks[COLUMNS * ROWS], letters[ROOM];

@@ -31,7 +31,7 @@ extern "C" {
 uint32_t pinduguil_mark(uint32_t columns, uint32_t rows, const uint8_t *map, size_t map_length,
                         uint8_t *out, size_t out_length);
 
-/* Route from a source to (row, column). Writes the letters of the hops and answers their number, at most 24,704; or
+/* Route from a source to (row, column). Writes the letters of the hops and answers their number, at most 4,034; or
  * PINDUGUIL_REFUSED plus 1 to 10. Bytes of out after the letters are left alone; on a refusal all of them are. */
 uint32_t pinduguil_route(uint32_t columns, uint32_t rows, const uint8_t *map, size_t map_length,
                          uint32_t source_row, uint32_t source_column, uint32_t row, uint32_t column,

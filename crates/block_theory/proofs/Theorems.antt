@@ -1,12 +1,12 @@
 -- What is shown of the marking and the blocks of document 01. Each theorem is proved in the file that its proof cites. Assumes nothing.
-use mathlib.Core.Path.{_≡_}
+use mathlib.Core.Path.{_≡_, refl}
 use mathlib.Core.Logic.{_⊎_}
 use mathlib.Core.Bool.{Bool, false}
-use mathlib.Core.List.{List}
-use Prim.Native.Nat.{ℕ, _*_, _≤_}
+use mathlib.Core.List.{List, [], _∷_}
+use Prim.Native.Nat.{ℕ, _-_, _*_, _≤_}
 use lib.ListN.{length}
-use Rattle.mesh.specs.Mesh.{Mesh, mesh}
-use Rattle.mesh.specs.Blocks.{bad, marked, Block, blocks, allowed}
+use Rattle.mesh.specs.Mesh.{Mesh, mesh, onMesh}
+use Rattle.mesh.specs.Blocks.{isBad, bad, ahead, upright, ruleA, ruleB, unsafe, become, advance, round, sameList, settle, marked, run, corner, Block, blockAt, select, blocks, allowed}
 use Rattle.mesh.specs.Walk.{detours}
 use Rattle.mesh.proofs.Refusals.{Accepted}
 use Rattle.block_theory.specs.Marking.{Closed, Holds}
@@ -80,5 +80,10 @@ module _ {columns rows : ℕ} {map : List ℕ} (a : Accepted columns rows map) w
       }
 
   -- the bound on the detours round all blocks
-  pub detours-are-bounded : detours (blocks (marked (mesh columns rows map))) ≤ 6 * (rows * columns)
-  detours-are-bounded = detours-bounded obstacles
+  pub detours-fit : detours (blocks (marked (mesh columns rows map))) ≤ (columns - 2) * (rows - 1)
+  detours-fit = detours-bounded obstacles
+
+-- It is reached: 5 columns by 3 rows with fault (1, 2).
+pub detours-fill : detours (blocks (marked (mesh 5 3 (0 ∷ 0 ∷ 0 ∷ 0 ∷ 0 ∷ 0 ∷ 0 ∷ 1 ∷ 0 ∷ 0 ∷ 0 ∷ 0 ∷ 0 ∷ 0 ∷ 0 ∷ [])))) ≡ (5 - 2) * (3 - 1)
+unfolding onMesh isBad bad ahead upright ruleA ruleB unsafe become advance round sameList settle run corner blockAt select blocks detours
+detours-fill = refl

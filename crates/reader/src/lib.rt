@@ -55,7 +55,7 @@ fn take_byte(
     out: &mut [u8],
     at: usize,
 ) -> Fed
-    requires { ⌜ Reading reader (now hold) (now map) (now marks) × (reader .over ≡ false) × (24704 ≤ length (now letters)) × (at + 24730 ≤ length (now out)) ⌝ }
+    requires { ⌜ Reading reader (now hold) (now map) (now marks) × (reader .over ≡ false) × (4034 ≤ length (now letters)) × (at + 4060 ≤ length (now out)) ⌝ }
     ensures { λ x. ⌜ Feeds (feed (readerOf reader (now (hold .entry)) (now (map .entry))) byte) (now (out .entry)) at x (now (hold .exit)) (now (map .exit)) (now (marks .exit)) (now (out .exit)) ⌝ }
 {
     let sheet = reader.sheet;
@@ -111,11 +111,11 @@ pub fn take_bytes(
     letters: &mut [u8],
     out: &mut [u8],
 ) -> Fed
-    requires { ⌜ Reading reader (now hold) (now map) (now marks) × (24704 ≤ length (now letters)) × (24730 ≤ length (now out)) ⌝ }
+    requires { ⌜ Reading reader (now hold) (now map) (now marks) × (4034 ≤ length (now letters)) × (4060 ≤ length (now out)) ⌝ }
     ensures { λ x. ⌜ FeedsSome (readerOf reader (now (hold .entry)) (now (map .entry))) (now (bytes .entry)) (now (out .entry)) x (now (hold .exit)) (now (map .exit)) (now (marks .exit)) (now (out .exit)) ⌝ }
 {
     let n = bytes.len();
-    let room = out.len() - 24730;
+    let room = out.len() - 4060;
     let mut r = reader;
     let mut at = 0;
     let mut i = 0;
@@ -148,7 +148,7 @@ pub fn take_bytes(
 
 // The end of the sheet.
 pub fn finish(reader: Reader, map: &[u8], marks: &mut [u8], out: &mut [u8], at: usize) -> usize
-    requires { ⌜ Finishing reader (now map) (now marks) × (at + 24730 ≤ length (now out)) ⌝ }
+    requires { ⌜ Finishing reader (now map) (now marks) × (at + 4060 ≤ length (now out)) ⌝ }
     ensures { λ x. ⌜ ((hold : List ℕ) → 20 ≤ length hold → Puts (now (out .entry)) at (finish (readerOf reader hold (now (map .entry)))) x (now (out .exit))) ⌝ }
 {
     if reader.over {

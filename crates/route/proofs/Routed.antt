@@ -2,8 +2,8 @@
 use mathlib.Core.Path.{_≡_, sym, ap, _∙_}
 use mathlib.Core.Bool.{true, false, cond}
 use mathlib.Core.List.{List}
-use Prim.Native.Nat.{ℕ, _+_, _*_, _≤_, _<_}
-use native.Mathlib.Nat.{zero-add, mul-comm}
+use Prim.Native.Nat.{ℕ, _+_, _≤_, _<_}
+use native.Mathlib.Nat.{zero-add}
 use native.Mathlib.Omega.{arith}
 use borrow.Author.Tests.{leb-true, leb-false, le-leb, lt-ltb, le-ltb}
 use lib.Dec.{ltb, leb}
@@ -17,16 +17,14 @@ use Rattle.mesh.specs.declared.Packet.{Packet}
 use Rattle.mesh.specs.declared.Place.{Place}
 use Rattle.mesh.specs.Mesh.{Mesh, mesh, letters}
 use Rattle.mesh.specs.Blocks.{bad, blocks}
-use Rattle.mesh.specs.Walk.{tripOn, distance, bound}
+use Rattle.mesh.specs.Walk.{tripOn, bound}
 use Rattle.mesh.specs.Refusals.{number, requestRefusals}
 use Rattle.mesh.specs.Operations.{routedAnswer, answer, written, hopsOf}
-use Rattle.mesh.proofs.Index.{few-nodes}
 use Rattle.mesh.proofs.Requests.{on-row, on-column, Request, request-next}
 use Rattle.mesh.proofs.Lists.{letters-length}
 use Rattle.mesh.proofs.Answers.{answer-refused, written-refused}
 use Rattle.block_theory.specs.Obstacles.{Obstacles}
-use Rattle.block_theory.proofs.Area.{detours-bounded}
-use Rattle.walk_theory.proofs.Theorems.{destination-course, source-served, request-arrives, same-walk}
+use Rattle.walk_theory.proofs.Theorems.{destination-course, source-served, request-arrives, request-bound, same-walk}
 use Rattle.maps.specs.Sized.{Sized}
 use Rattle.buffers.specs.Over.{over}
 use Rattle.route.specs.Following.{hopLimit, rest, Going}
@@ -36,23 +34,10 @@ use Rattle.buffers.proofs.Over.{over-all}
 abbrev pub start : Place → Place → Packet
 start s d = record { place = s; last = none; destination = d }
 
-distance-few : (a b : ℕ) → a < 64 → b < 64 → distance a b ≤ 63
-unfolding distance
-distance-few a b p q = omega arith
-
 module _ (columns rows : ℕ) (marks : List ℕ) (s d : Place) (sized : Sized columns rows marks) (o : Obstacles columns rows (bad (mesh columns rows marks)) (blocks (mesh columns rows marks))) (q : Request (mesh columns rows marks) s d) where
   -- no route is longer than the limit
   bound-few : bound (tripOn (mesh columns rows marks) (d .row .0) (d .column .0)) (blocks (mesh columns rows marks)) (s .row .0) (s .column .0) < hopLimit
-  unfolding bound
-  bound-few =
-      let w = mesh columns rows marks in
-      let on-s = q .placed .source-on in
-      let on-d = q .placed .destination-on in
-      let few = few-nodes columns rows (sized .few-columns) (sized .few-rows) in
-      let area : rows * columns ≤ 4096 = rw (mul-comm rows columns) few in
-      let r = distance-few (s .row .0) (d .row .0) (omega (arith, on-row w s on-s, sized .few-rows)) (omega (arith, on-row w d on-d, sized .few-rows)) in
-      let c = distance-few (s .column .0) (d .column .0) (omega (arith, on-column w s on-s, sized .few-columns)) (omega (arith, on-column w d on-d, sized .few-columns)) in
-      omega (arith, detours-bounded o)
+  bound-few = omega (arith, request-bound (mesh columns rows marks) s d (sized .few-columns) (sized .few-rows) o q)
 
   -- the hops of the request, as the two modes follow them
   pub rest-hops : rest hopLimit (mesh columns rows marks) (start s d) ≡ hopsOf (mesh columns rows marks) s d
@@ -74,7 +59,7 @@ module _ (columns rows : ℕ) (marks : List ℕ) (s d : Place) (sized : Sized co
         few = omega arith;
       }
 
-pub room-enough : {columns rows : ℕ} {marks : List ℕ} {p : Packet} (room : ℕ) → Going columns rows marks p 0 hopLimit → 24704 ≤ room → true ≡ leb (length (rest hopLimit (mesh columns rows marks) p)) room
+pub room-enough : {columns rows : ℕ} {marks : List ℕ} {p : Packet} (room : ℕ) → Going columns rows marks p 0 hopLimit → 4034 ≤ room → true ≡ leb (length (rest hopLimit (mesh columns rows marks) p)) room
 room-enough room g h = sym (le-leb _ room (omega (arith, g .leads .enough)))
 
 module _ (w : Mesh) (s d : Place) (out : List ℕ) where

@@ -2,7 +2,7 @@
 use mathlib.Core.Path.{_≡_}
 use mathlib.Core.Bool.{true}
 use mathlib.Core.List.{List}
-use Prim.Native.Nat.{ℕ, _+_, _≤_, _<_}
+use Prim.Native.Nat.{ℕ, suc, _+_, _≤_, _<_}
 use lib.ListN.{length}
 use Rattle.mesh.specs.declared.Heading.{Heading}
 use Rattle.mesh.specs.declared.Packet.{Packet}
@@ -10,6 +10,7 @@ use Rattle.mesh.specs.Mesh.{Mesh, mesh, letters}
 use Rattle.mesh.specs.Hops.{Trip}
 use Rattle.mesh.specs.Walk.{At, lawfulRoute, walk}
 use Rattle.mesh.specs.Packets.{at, tripOf}
+use Rattle.walk_theory.specs.Claims.{mostHops}
 use Rattle.buffers.specs.Over.{over}
 use Rattle.maps.specs.Sized.{Sized}
 
@@ -24,7 +25,7 @@ rest left w p = walk left (tripOf w p) (at p)
 
 -- more hops than any route has, on any mesh
 abbrev pub hopLimit : ℕ
-hopLimit = 24705
+hopLimit = suc mostHops
 
 -- the packet is on the mesh, and fewer hops than left lead to its destination
 pub record Going (columns rows : ℕ) (marks : List ℕ) (p : Packet) (made left : ℕ) : Type 0 where

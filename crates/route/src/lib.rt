@@ -100,17 +100,17 @@ fn round_block(
     straight(columns, rows, marks, p, out, made, left)
 }
 
-// Whether the hops from here to the destination fit into so many bytes. No route has more than 24704; for less room they are counted first,
+// Whether the hops from here to the destination fit into so many bytes. No route has more than 4034; for less room they are counted first,
 // and written nowhere.
 fn has_room(columns: u32, rows: u32, marks: &[u8], packet: Packet, room: usize) -> bool
     requires { ⌜ Going columns rows (now marks) packet 0 hopLimit ⌝ }
     ensures { λ x. ⌜ x ≡ leb (length (rest hopLimit (mesh columns rows (now (marks .entry))) packet)) room ⌝ }
 {
-    if 24704 <= room {
+    if 4034 <= room {
         return true;
     }
     let mut nowhere = [0u8; 1];
-    let hops = round_block(columns, rows, marks, packet, &mut nowhere, 0, 24705);
+    let hops = round_block(columns, rows, marks, packet, &mut nowhere, 0, 4035);
     hops as usize <= room
 }
 
@@ -156,7 +156,7 @@ pub fn route_marked(
     if !has_room(columns, rows, marks, fresh, out.len()) {
         return Routed::Refused(Refusal::Room);
     }
-    let hops = round_block(columns, rows, marks, fresh, out, 0, 24705);
+    let hops = round_block(columns, rows, marks, fresh, out, 0, 4035);
     Routed::Hops(hops)
 }
 

@@ -23,13 +23,6 @@ struct Read {
     more: bool,
 }
 
-// Room for the letters of any route.
-fn letters_room() -> [u8; 24704]
-    ensures { λ r. ⌜ 24704 ≡ length r ⌝ }
-{
-    [0; 24704]
-}
-
 // Nothing more is to be read.
 fn stopped(reader: Reader) -> Reader
     ensures { λ x. ⌜ (x .over ≡ true) × (x .held ≡ reader .held) ⌝ }
@@ -53,7 +46,7 @@ fn answer_part(
     letters: &mut [u8],
     out: &mut [u8],
 ) -> Part
-    requires { ⌜ Reading reader (now hold) (now map) (now marks) × (24704 ≤ length (now letters)) × (24730 ≤ length (now out)) ⌝ }
+    requires { ⌜ Reading reader (now hold) (now map) (now marks) × (4034 ≤ length (now letters)) × (4060 ≤ length (now out)) ⌝ }
     ensures { λ x. ⌜ Reading (x .reader) (now (hold .exit)) (now (map .exit)) (now (marks .exit)) × (x .taken ≤ length (now (bytes .entry))) ⌝ }
 {
     let fed = take_bytes(reader, bytes, hold, map, marks, letters, out);
@@ -81,7 +74,7 @@ fn answer_some(
     letters: &mut [u8],
     out: &mut [u8],
 ) -> Reader
-    requires { ⌜ Reading reader (now hold) (now map) (now marks) × (24704 ≤ length (now letters)) × (24730 ≤ length (now out)) ⌝ }
+    requires { ⌜ Reading reader (now hold) (now map) (now marks) × (4034 ≤ length (now letters)) × (4060 ≤ length (now out)) ⌝ }
     ensures { λ x. ⌜ Reading x (now (hold .exit)) (now (map .exit)) (now (marks .exit)) ⌝ }
 {
     let n = bytes.len();
@@ -108,7 +101,7 @@ fn read_some(
     letters: &mut [u8],
     out: &mut [u8],
 ) -> Read
-    requires { ⌜ Reading reader (now hold) (now map) (now marks) × (24704 ≤ length (now letters)) × (24730 ≤ length (now out)) ⌝ }
+    requires { ⌜ Reading reader (now hold) (now map) (now marks) × (4034 ≤ length (now letters)) × (4060 ≤ length (now out)) ⌝ }
     ensures { λ x. ⌜ Reading (x .reader) (now (hold .exit)) (now (map .exit)) (now (marks .exit)) ⌝ }
 {
     let got = libc::read(STDIN_FILENO, chunk);
@@ -144,7 +137,7 @@ fn run(
     letters: &mut [u8],
     out: &mut [u8],
 )
-    requires { ⌜ (20 ≤ length (now hold)) × (4096 ≤ length (now map)) × (4096 ≤ length (now marks)) × (24704 ≤ length (now letters)) × (24730 ≤ length (now out)) ⌝ }
+    requires { ⌜ (20 ≤ length (now hold)) × (4096 ≤ length (now map)) × (4096 ≤ length (now marks)) × (4034 ≤ length (now letters)) × (4060 ≤ length (now out)) ⌝ }
 {
     let mut r = begin();
     let mut turns = u64::MAX;
@@ -162,7 +155,7 @@ fn main() {
     let mut hold = [0u8; 20];
     let mut map = io::buffer();
     let mut marks = io::buffer();
-    let mut letters = letters_room();
+    let mut letters = io::buffer();
     let mut out = io::large_buffer();
     run(
         &mut chunk,

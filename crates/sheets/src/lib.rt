@@ -59,7 +59,7 @@ fn answer_send(
     out: &mut [u8],
     at: usize,
 ) -> usize
-    requires { ⌜ Sized columns rows (now marks) × Obstacles columns rows (bad (mesh columns rows (now marks))) (blocks (mesh columns rows (now marks))) × (24704 ≤ length (now letters)) × (at + 24714 ≤ length (now out)) ⌝ }
+    requires { ⌜ Sized columns rows (now marks) × Obstacles columns rows (bad (mesh columns rows (now marks))) (blocks (mesh columns rows (now marks))) × (4034 ≤ length (now letters)) × (at + 4044 ≤ length (now out)) ⌝ }
     ensures { λ x. ⌜ Puts (now (out .entry)) at (sendAnswer (mesh columns rows (now (marks .entry))) s d) x (now (out .exit)) ⌝ }
 {
     let routed = route_marked(columns, rows, marks, s, d, letters);
@@ -116,7 +116,7 @@ fn first_line(
     out: &mut [u8],
     at: usize,
 ) -> Answered
-    requires { ⌜ MapReady sheet (now map) × (sheet .phase ≡ Start) × (at + 24730 ≤ length (now out)) ⌝ }
+    requires { ⌜ MapReady sheet (now map) × (sheet .phase ≡ Start) × (at + 4060 ≤ length (now out)) ⌝ }
     ensures { λ x. ⌜ ((number : ℕ) → StepsMap (meshLine Start number (stateOf sheet (now (map .entry))) columns rows) (now (out .entry)) at x (now (map .exit)) (now (out .exit))) ⌝ }
 {
     if is_bad_size(columns) {
@@ -147,7 +147,7 @@ fn mesh_line(
     out: &mut [u8],
     at: usize,
 ) -> Answered
-    requires { ⌜ MapReady sheet (now map) × (number < 100000) × (at + 24730 ≤ length (now out)) ⌝ }
+    requires { ⌜ MapReady sheet (now map) × (number < 100000) × (at + 4060 ≤ length (now out)) ⌝ }
     ensures { λ x. ⌜ StepsMap (meshLine (sheet .phase) number (stateOf sheet (now (map .entry))) columns rows) (now (out .entry)) at x (now (map .exit)) (now (out .exit)) ⌝ }
 {
     let phase = sheet.phase;
@@ -167,7 +167,7 @@ fn set_fault(
     out: &mut [u8],
     at: usize,
 ) -> Answered
-    requires { ⌜ MapReady sheet (now map) × (sheet .phase ≡ Faults) × (number < 100000) × (at + 24730 ≤ length (now out)) ⌝ }
+    requires { ⌜ MapReady sheet (now map) × (sheet .phase ≡ Faults) × (number < 100000) × (at + 4060 ≤ length (now out)) ⌝ }
     ensures { λ x. ⌜ StepsMap (faultLine Faults number (stateOf sheet (now (map .entry))) p) (now (out .entry)) at x (now (map .exit)) (now (out .exit)) ⌝ }
 {
     if sheet.rows <= p.row.0 {
@@ -194,7 +194,7 @@ fn fault_line(
     out: &mut [u8],
     at: usize,
 ) -> Answered
-    requires { ⌜ MapReady sheet (now map) × (number < 100000) × (at + 24730 ≤ length (now out)) ⌝ }
+    requires { ⌜ MapReady sheet (now map) × (number < 100000) × (at + 4060 ≤ length (now out)) ⌝ }
     ensures { λ x. ⌜ StepsMap (faultLine (sheet .phase) number (stateOf sheet (now (map .entry))) p) (now (out .entry)) at x (now (map .exit)) (now (out .exit)) ⌝ }
 {
     let phase = sheet.phase;
@@ -207,7 +207,7 @@ fn fault_line(
 
 // blocks B, or no 5: the marking is made here, once for the whole sheet.
 pub fn open_sends(sheet: Sheet, map: &[u8], marks: &mut [u8], out: &mut [u8], at: usize) -> Answered
-    requires { ⌜ Ready sheet (now map) (now marks) × (sheet .phase ≡ Faults) × (at + 24730 ≤ length (now out)) ⌝ }
+    requires { ⌜ Ready sheet (now map) (now marks) × (sheet .phase ≡ Faults) × (at + 4060 ≤ length (now out)) ⌝ }
     ensures { λ x. ⌜ Opens sheet (now (map .entry)) (now (out .entry)) at x (now (marks .exit)) (now (out .exit)) ⌝ }
 {
     let columns = sheet.columns;
@@ -240,7 +240,7 @@ fn next_send(
     out: &mut [u8],
     at: usize,
 ) -> usize
-    requires { ⌜ Sendable sheet (now marks) × (24704 ≤ length (now letters)) × (at + 24714 ≤ length (now out)) ⌝ }
+    requires { ⌜ Sendable sheet (now marks) × (4034 ≤ length (now letters)) × (at + 4044 ≤ length (now out)) ⌝ }
     ensures { λ x. ⌜ Puts (now (out .entry)) at (sendAnswer (markedMesh sheet (now (marks .entry))) s d) x (now (out .exit)) ⌝ }
 {
     let n = (sheet.columns * sheet.rows) as usize;
@@ -267,7 +267,7 @@ fn first_send(
     out: &mut [u8],
     at: usize,
 ) -> Answered
-    requires { ⌜ Ready sheet (now map) (now marks) × (sheet .phase ≡ Faults) × (24704 ≤ length (now letters)) × (at + 24730 ≤ length (now out)) ⌝ }
+    requires { ⌜ Ready sheet (now map) (now marks) × (sheet .phase ≡ Faults) × (4034 ≤ length (now letters)) × (at + 4060 ≤ length (now out)) ⌝ }
     ensures { λ x. ⌜ ((number : ℕ) → Answers (sendLine Faults number (stateOf sheet (now (map .entry))) s d) (now (out .entry)) at x (now (map .entry)) (now (marks .exit)) (now (out .exit))) ⌝ }
 {
     let opened = open_sends(sheet, map, marks, out, at);
@@ -295,7 +295,7 @@ fn send_line(
     out: &mut [u8],
     at: usize,
 ) -> Answered
-    requires { ⌜ Ready sheet (now map) (now marks) × (number < 100000) × (24704 ≤ length (now letters)) × (at + 24730 ≤ length (now out)) ⌝ }
+    requires { ⌜ Ready sheet (now map) (now marks) × (number < 100000) × (4034 ≤ length (now letters)) × (at + 4060 ≤ length (now out)) ⌝ }
     ensures { λ x. ⌜ Answers (sendLine (sheet .phase) number (stateOf sheet (now (map .entry))) s d) (now (out .entry)) at x (now (map .entry)) (now (marks .exit)) (now (out .exit)) ⌝ }
 {
     let phase = sheet.phase;
@@ -324,7 +324,7 @@ pub fn answer_line(
     out: &mut [u8],
     at: usize,
 ) -> Answered
-    requires { ⌜ Ready sheet (now map) (now marks) × (number < 100000) × (24704 ≤ length (now letters)) × (at + 24730 ≤ length (now out)) ⌝ }
+    requires { ⌜ Ready sheet (now map) (now marks) × (number < 100000) × (4034 ≤ length (now letters)) × (at + 4060 ≤ length (now out)) ⌝ }
     ensures { λ x. ⌜ Answers (lineStep number (stateOf sheet (now (map .entry))) (ended (now (text .entry)))) (now (out .entry)) at x (now (map .exit)) (now (marks .exit)) (now (out .exit)) ⌝ }
 {
     if 65535 < number {

@@ -14,5 +14,6 @@ pub mod Walks
 pub mod Source
 pub mod Arrival
 pub mod ShutIn
+pub mod Longest
 pub mod Theorems
 pub mod Example

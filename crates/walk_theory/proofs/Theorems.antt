@@ -11,8 +11,8 @@ use lib.Dec.{eqb, ltb}
 use lib.ListN.{length}
 use Rattle.mesh.specs.declared.Heading.the-variants.{West as W}
 use Rattle.mesh.specs.declared.Place.{Place}
-use Rattle.mesh.specs.Mesh.{Mesh, onMesh}
-use Rattle.mesh.specs.Blocks.{Block, bad, blocks, onSomeRing}
+use Rattle.mesh.specs.Mesh.{Mesh, mesh, onMesh}
+use Rattle.mesh.specs.Blocks.{Block, bad, marked, blocks, onSomeRing}
 use Rattle.mesh.specs.Turns.{turnsWest}
 use Rattle.mesh.specs.Hops.{Trip, blocked}
 use Rattle.mesh.specs.Walk.{tripOn, fresh, walk, shutIn, bound}
@@ -20,15 +20,18 @@ use Rattle.mesh.specs.Refusals.{offMesh, inBlock, onARing, unserved}
 use Rattle.mesh.specs.Operations.{hopsOf}
 use Rattle.mesh.proofs.Bools.{true-false, value, and-both, or-cases}
 use Rattle.mesh.proofs.Requests.{on-row, on-column, Placed, Request}
+use Rattle.mesh.proofs.Refusals.{Accepted}
 use Rattle.mesh.proofs.Turns.{turns-change}
 use Rattle.block_theory.specs.Obstacles.{Obstacles}
 use Rattle.block_theory.proofs.Rings.{off-rings-within}
+use Rattle.block_theory.proofs.Theorems.{obstacles}
 use Rattle.walk_theory.specs.Course.{Course, FreePlace, meetsEdge, Served}
-use Rattle.walk_theory.specs.Claims.{Arrives, Fails, reached, OnTheWay}
+use Rattle.walk_theory.specs.Claims.{Arrives, mostHops, Fails, reached, OnTheWay}
 use Rattle.walk_theory.proofs.Walks.{walks-agree, fails-unlawful, on-the-way-from}
 use Rattle.walk_theory.proofs.Source.{start}
 use Rattle.walk_theory.proofs.Arrival.{mode-arrives}
 use Rattle.walk_theory.proofs.ShutIn.{edge-barred, west-fails, shut-by}
+use Rattle.walk_theory.proofs.Longest.{bound-few}
 
 module _ {w : Trip} {bs : List Block} (course : Course w bs) (r c : ℕ) where
   -- from a served source the walk is a lawful route within the bound, whatever number of hops above the bound is allowed
@@ -139,3 +142,17 @@ module _ (w : Mesh) where
     unfolding hopsOf
     request-arrives o q =
         walk-arrives (destination-course o (q .placed) (q .off-rings)) _ _ (source-served q) _ (omega arith)
+
+    -- their bound on a mesh of at most 64 columns and rows
+    pub request-bound : w .columns ≤ 64 → w .rows ≤ 64 → Obstacles (w .columns) (w .rows) (bad w) (blocks w) → Request w s d →
+        bound (tripOn w (d .row .0) (d .column .0)) (blocks w) (s .row .0) (s .column .0) ≤ mostHops
+    request-bound few-columns few-rows o q =
+        bound-few (destination-course o (q .placed) (q .off-rings)) (source-served q .place) few-columns few-rows
+
+-- no route has more hops: of every map that refusals 1 to 5 let pass, and every request that refusals 6 to 9 let pass
+pub routes-are-short : {columns rows : ℕ} {map : List ℕ} → Accepted columns rows map → (s d : Place) → Request (marked (mesh columns rows map)) s d →
+    length (hopsOf (marked (mesh columns rows map)) s d) ≤ mostHops
+routes-are-short {columns} {rows} {map} a s d q =
+    let w = marked (mesh columns rows map) in
+    let o = obstacles a in
+    omega (arith, request-arrives w s d o q .hops, request-bound w s d (a .few-columns) (a .few-rows) o q)

@@ -15,6 +15,10 @@ pub record Arrives (w : Trip) (bs : List Block) (r c : ℕ) (hs : List Heading) 
   pub route : lawfulRoute w (fresh r c) hs ≡ true
   pub hops : length hs ≤ bound w bs r c
 
+-- no bound is larger on a mesh of at most 64 columns and 64 rows: 63 + 63 + 2 + 62 x 63
+abbrev pub mostHops : ℕ
+mostHops = 4034
+
 -- refusal 9 in its own words: before the packet arrives some hop by the rules is unlawful
 pub data Fails (w : Trip) : At → Type 0 where
   now : {p : At} → arrived w p ≡ false → lawful w p (hopAt w p) ≡ false → Fails w p

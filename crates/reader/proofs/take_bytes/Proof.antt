@@ -9,7 +9,7 @@ use Rattle.reader.proofs.take_bytes.Statement.{statement}
 use Rattle.reader.proofs.take_bytes.Tie as tie
 
 abbrev Inv-loop : tie.InvT-loop
-Inv-loop bytes hold₀ map₀ marks₀ letters₀ out₀ n room r₀ at₀ i₀ hold map marks letters out r at i = (i ≤ n) × (n ≡ length bytes) × (room + 24730 ≡ length out₀) × (length hold ≡ length hold₀) × (length map ≡ length map₀) × (length marks ≡ length marks₀) × (length letters ≡ length letters₀) × (24704 ≤ length letters) × Taking (readerOf r₀ hold₀ map₀) bytes out₀ hold map marks out r at i
+Inv-loop bytes hold₀ map₀ marks₀ letters₀ out₀ n room r₀ at₀ i₀ hold map marks letters out r at i = (i ≤ n) × (n ≡ length bytes) × (room + 4060 ≡ length out₀) × (length hold ≡ length hold₀) × (length map ≡ length map₀) × (length marks ≡ length marks₀) × (length letters ≡ length letters₀) × (4034 ≤ length letters) × Taking (readerOf r₀ hold₀ map₀) bytes out₀ hold map marks out r at i
 
 abbrev μ-loop : tie.MeasureT-loop
 μ-loop bytes hold₀ map₀ marks₀ letters₀ out₀ n room r₀ at₀ i₀ hold map marks letters out r at i = n - i

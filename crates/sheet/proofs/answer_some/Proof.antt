@@ -10,7 +10,7 @@ use Rattle.sheet.proofs.answer_some.Statement.{statement}
 use Rattle.sheet.proofs.answer_some.Tie as tie
 
 abbrev Inv-loop : tie.InvT-loop
-Inv-loop bytes hold₀ map₀ marks₀ letters₀ out₀ n r₀ used₀ hold map marks letters out r used = (used ≤ n) × (n ≡ length bytes) × (length hold ≡ length hold₀) × (length map ≡ length map₀) × (length marks ≡ length marks₀) × (length letters ≡ length letters₀) × (length out ≡ length out₀) × (24704 ≤ length letters) × (24730 ≤ length out) × Reading r hold map marks
+Inv-loop bytes hold₀ map₀ marks₀ letters₀ out₀ n r₀ used₀ hold map marks letters out r used = (used ≤ n) × (n ≡ length bytes) × (length hold ≡ length hold₀) × (length map ≡ length map₀) × (length marks ≡ length marks₀) × (length letters ≡ length letters₀) × (length out ≡ length out₀) × (4034 ≤ length letters) × (4060 ≤ length out) × Reading r hold map marks
 
 abbrev μ-loop : tie.MeasureT-loop
 μ-loop bytes hold₀ map₀ marks₀ letters₀ out₀ n r₀ used₀ hold map marks letters out r used = n - used

@@ -9,7 +9,7 @@ use Rattle.sheet.proofs.run.Statement.{statement}
 use Rattle.sheet.proofs.run.Tie as tie
 
 abbrev Inv-loop : tie.InvT-loop
-Inv-loop chunk₀ hold₀ map₀ marks₀ letters₀ out₀ r₀ turns₀ chunk hold map marks letters out r turns = (length chunk ≡ length chunk₀) × (length hold ≡ length hold₀) × (length map ≡ length map₀) × (length marks ≡ length marks₀) × (length letters ≡ length letters₀) × (length out ≡ length out₀) × (24704 ≤ length letters) × (24730 ≤ length out) × Reading r hold map marks
+Inv-loop chunk₀ hold₀ map₀ marks₀ letters₀ out₀ r₀ turns₀ chunk hold map marks letters out r turns = (length chunk ≡ length chunk₀) × (length hold ≡ length hold₀) × (length map ≡ length map₀) × (length marks ≡ length marks₀) × (length letters ≡ length letters₀) × (length out ≡ length out₀) × (4034 ≤ length letters) × (4060 ≤ length out) × Reading r hold map marks
 
 abbrev μ-loop : tie.MeasureT-loop
 μ-loop chunk₀ hold₀ map₀ marks₀ letters₀ out₀ r₀ turns₀ chunk hold map marks letters out r turns = turns
