@@ -1,2 +1,3 @@
 pub mod Over
 pub mod Copy
+pub mod Repeat

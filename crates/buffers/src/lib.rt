@@ -1,18 +1,33 @@
 // Bytes written into a lent buffer.
 ghost use mathlib.Core.Path.{_≡_};
 ghost use mathlib.Core.List.{[], _∷_};
-ghost use Prim.Native.Nat.{_≤_, _<_, _+_};
-ghost use lib.ListN.{length, set};
-ghost use Rattle.buffers.specs.Over.{Puts};
+ghost use Prim.Native.Nat.{_≤_, _<_, _+_, min};
+ghost use lib.ListN.{length, replicate};
+ghost use Rattle.buffers.specs.Over.{over, Puts};
 
-// Writes a byte at index i, if the buffer has that index.
-pub fn set(out: &mut [u8], i: usize, byte: u8)
-    ensures { λ _. ⌜ now (out .exit) ≡ set (now (out .entry)) i byte ⌝ }
+// The smaller number.
+fn least(a: usize, b: usize) -> usize
+    ensures { λ x. ⌜ x ≡ min a b ⌝ }
 {
-    if out.len() <= i {
+    if a < b {
+        return a;
+    }
+    b
+}
+
+// Writes a byte n times from index at on, as far as the buffer goes.
+pub fn fill(out: &mut [u8], at: usize, n: usize, byte: u8)
+    ensures { λ _. ⌜ now (out .exit) ≡ over (now (out .entry)) at (replicate n byte) ⌝ }
+{
+    if out.len() <= at {
         return;
     }
-    out[i] = byte;
+    let k = least(n, out.len() - at);
+    let mut i = 0;
+    while i < k {
+        out[at + i] = byte;
+        i += 1;
+    }
 }
 
 // Writes a byte into a buffer at index at, and answers the index after it.

@@ -8,15 +8,16 @@ use Rattle.mesh.specs.declared.Heading.{Heading}
 use Rattle.mesh.specs.declared.Heading.the-variants.{East as E, North as N, South as S, West as W}
 use Rattle.mesh.specs.Mesh.{rowAfter, columnAfter}
 use Rattle.mesh.specs.Walk.{stays}
-use Rattle.hops.specs.Lands.{Lands}
+use Rattle.hops.specs.Moved.{Lands}
 
 module _ (columns rows r c : ℕ) (p : r < rows) (q : c < columns) where
-  pub stays-lands : (h : Heading) → columns ≤ 64 → rows ≤ 64 → stays columns rows h r c ≡ true → Lands h r c
+  pub stays-lands : (h : Heading) → columns ≤ 64 → rows ≤ 64 → stays columns rows h r c ≡ true → Lands h 1 r c
   unfolding stays
   stays-lands h few-columns few-rows s =
       record {
         row = omega arith;
         column = omega arith;
+        hops = omega arith;
         south = λ e. leb-true 1 r (rw e at s);
         west = λ e. leb-true 1 c (rw e at s);
       }

@@ -1,2 +1,3 @@
 pub mod Landing
+pub mod Ways
 pub mod Testing

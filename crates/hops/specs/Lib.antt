@@ -1,2 +1,2 @@
-pub mod Lands
+pub mod Moved
 pub mod Tests

@@ -2,11 +2,12 @@
 ghost use mathlib.Core.Path.{_≡_};
 ghost use Prim.Native.Nat.{_≤_, _<_};
 ghost use Rattle.mesh.specs.declared.Heading.the-variants.{South, West};
-ghost use Rattle.mesh.specs.Mesh.{mesh, rowAfter, columnAfter};
+ghost use Rattle.mesh.specs.Mesh.{mesh};
+ghost use Rattle.mesh.specs.Blocks.{bad};
 ghost use Rattle.mesh.specs.Walk.{stays};
-ghost use Rattle.mesh.specs.Packets.{isThere, movedPacket};
+ghost use Rattle.mesh.specs.Packets.{isThere};
 ghost use Rattle.maps.specs.Sized.{Sized};
-ghost use Rattle.hops.specs.Lands.{Lands};
+ghost use Rattle.hops.specs.Moved.{rowBy, columnBy, movedBy, Lands, Reaches, Free};
 ghost use Rattle.hops.specs.Tests.{Tests};
 use maps::is_bad_node;
 use mesh::Column;
@@ -33,39 +34,39 @@ fn stays(columns: u32, rows: u32, r: Row, c: Column, h: Heading) -> bool
     }
 }
 
-// The row after a hop.
-fn row_after(r: Row, h: Heading) -> Row
-    requires { ⌜ (r .0 < 64) × (h ≡ South → 1 ≤ r .0) ⌝ }
-    ensures { λ x. ⌜ x .0 ≡ rowAfter h (r .0) ⌝ }
+// The row after n hops that way.
+fn row_by(r: Row, h: Heading, n: u32) -> Row
+    requires { ⌜ (r .0 < 64) × (n < 64) × (h ≡ South → n ≤ r .0) ⌝ }
+    ensures { λ x. ⌜ x .0 ≡ rowBy h n (r .0) ⌝ }
 {
     match h {
         Heading::East => return r,
-        Heading::North => return Row(r.0 + 1),
-        Heading::South => return Row(r.0 - 1),
+        Heading::North => return Row(r.0 + n),
+        Heading::South => return Row(r.0 - n),
         Heading::West => return r,
     }
 }
 
-// The column after a hop.
-fn column_after(c: Column, h: Heading) -> Column
-    requires { ⌜ (c .0 < 64) × (h ≡ West → 1 ≤ c .0) ⌝ }
-    ensures { λ x. ⌜ x .0 ≡ columnAfter h (c .0) ⌝ }
+// The column after n hops that way.
+fn column_by(c: Column, h: Heading, n: u32) -> Column
+    requires { ⌜ (c .0 < 64) × (n < 64) × (h ≡ West → n ≤ c .0) ⌝ }
+    ensures { λ x. ⌜ x .0 ≡ columnBy h n (c .0) ⌝ }
 {
     match h {
-        Heading::East => return Column(c.0 + 1),
+        Heading::East => return Column(c.0 + n),
         Heading::North => return c,
         Heading::South => return c,
-        Heading::West => return Column(c.0 - 1),
+        Heading::West => return Column(c.0 - n),
     }
 }
 
-// The packet after a hop.
-pub fn moved(p: Packet, h: Heading) -> Packet
-    requires { ⌜ Lands h (p .place .row .0) (p .place .column .0) ⌝ }
-    ensures { λ x. ⌜ x ≡ movedPacket h p ⌝ }
+// The packet after n hops that way.
+pub fn moved_by(p: Packet, h: Heading, n: u32) -> Packet
+    requires { ⌜ Lands h n (p .place .row .0) (p .place .column .0) ⌝ }
+    ensures { λ x. ⌜ x ≡ movedBy h n p ⌝ }
 {
-    let row = row_after(p.place.row, h);
-    let column = column_after(p.place.column, h);
+    let row = row_by(p.place.row, h, n);
+    let column = column_by(p.place.column, h, n);
     let place = Place { row, column };
     let last = Last::Made(h);
     let destination = p.destination;
@@ -74,6 +75,23 @@ pub fn moved(p: Packet, h: Heading) -> Packet
         last,
         destination,
     }
+}
+
+// How many of the next n nodes that way lie before the first bad one.
+pub fn count_free(columns: u32, rows: u32, marks: &[u8], s: Place, h: Heading, n: u32) -> u32
+    requires { ⌜ Sized columns rows (now marks) × Reaches columns rows h n (s .row .0) (s .column .0) ⌝ }
+    ensures { λ x. ⌜ Free (bad (mesh columns rows (now (marks .entry)))) h n (s .row .0) (s .column .0) x ⌝ }
+{
+    let mut k = 0;
+    while k < n {
+        let row = row_by(s.row, h, k + 1);
+        let column = column_by(s.column, h, k + 1);
+        if is_bad_node(columns, rows, marks, row, column) {
+            return k;
+        }
+        k += 1;
+    }
+    n
 }
 
 // What is wrong with a hop, tested in the order of the numbers.
@@ -87,7 +105,7 @@ pub fn test_hop(columns: u32, rows: u32, marks: &[u8], p: Packet, h: Heading) ->
     if !stays(columns, rows, r, c, h) {
         return Tested::Wrong(Fault::LeavesMesh);
     }
-    let after = moved(p, h);
+    let after = moved_by(p, h, 1);
     if turns_back(l, h) {
         return Tested::Wrong(Fault::Reverses);
     }

@@ -1,24 +1,27 @@
--- One hop of the two modes, and where they end. Assumes nothing.
+-- A leg of the two modes, and where they end. Assumes nothing.
 use mathlib.Core.Path.{_≡_, refl, sym, _∙_}
-use mathlib.Core.Bool.{true, false}
+use mathlib.Core.Bool.{Bool, true, false, _||_}
 use mathlib.Core.List.{List, _∷_}
 use Prim.Native.Nat.{ℕ, zero, suc, _+_, _-_, _≤_, _<_}
+use native.Mathlib.Nat.{add-zero, sub-zero}
 use native.Mathlib.Omega.{arith}
-use lib.Dec.{eqb}
-use lib.ListN.{length, set, length-set}
+use lib.ListN.{length, set, replicate}
 use Rattle.mesh.specs.declared.Heading.{Heading}
 use Rattle.mesh.specs.declared.Packet.{Packet}
 use Rattle.mesh.specs.Mesh.{Mesh, mesh, letter, letters}
-use Rattle.mesh.specs.Hops.{Trip, atDestination, inRow, otherRow, hop}
+use Rattle.mesh.specs.Hops.{Trip, atDestination}
 use Rattle.mesh.specs.Walk.{At, stays, lawful, moved, arrived, lawfulRoute, hopAt, walk}
 use Rattle.mesh.specs.Packets.{at, tripOf, isThere, movedPacket}
 use Rattle.mesh.specs.Moving.{hopFrom}
-use Rattle.mesh.proofs.Bools.{and-both}
-use Rattle.hops.specs.Lands.{Lands}
+use Rattle.mesh.proofs.Bools.{and-both, or-none}
+use Rattle.hops.specs.Moved.{movedBy}
 use Rattle.hops.proofs.Landing.{stays-lands, stays-on}
 use Rattle.buffers.specs.Over.{over}
+use Rattle.buffers.proofs.Over.{over-length}
 use Rattle.maps.specs.Sized.{Sized}
-use Rattle.route.specs.Following.{Leads, Going, Follows}
+use Rattle.travel.specs.Straight.{inItsRow, nearsRow, after, Runs}
+use Rattle.travel.proofs.Runs.{after-moved}
+use Rattle.route.specs.Following.{hopLimit, Leads, Going, Follows}
 
 -- the first hop of a walk that leads to the destination
 pub record Hops (m n : ℕ) (w : Trip) (p : At) : Type 0 where
@@ -38,9 +41,10 @@ there-arrived : (w : Mesh) (p : Packet) → isThere p ≡ arrived (tripOf w p) (
 unfolding isThere arrived atDestination
 there-arrived w p = refl
 
-pub away-row : (p : Packet) → eqb (p .place .row .0) (p .destination .row .0) ≡ false → isThere p ≡ false
-unfolding isThere
-away-row p e = rw e
+-- where the packet cannot travel straight it is not at its destination
+pub away-round : (p : Packet) {x : Bool} → x ≡ inItsRow p || nearsRow p → x ≡ false → isThere p ≡ false
+unfolding isThere inItsRow
+away-round p e f = rw (or-none (inItsRow p) (nearsRow p) (sym e ∙ f) .0)
 
 pub follows-there : (w : Mesh) (p : Packet) (out : List ℕ) (made left : ℕ) → isThere p ≡ true → Follows w p out made left made out
 unfolding walk letters over
@@ -49,23 +53,14 @@ follows-there w p out made (suc left) e =
     let a : arrived (tripOf w p) (at p) ≡ true = sym (there-arrived w p) ∙ e in
     record { counts = rw a (omega arith); writes = rw a }
 
--- rule 2 in the destination's row, rules 3 to 6 in others
-module _ (w : Mesh) (p : Packet) where
-  pub row-hop : eqb (p .place .row .0) (p .destination .row .0) ≡ true → inRow (tripOf w p) (p .place .row .0) (p .place .column .0) (p .last) ≡ hopFrom w p
-  unfolding hopFrom hopAt hop
-  row-hop e = rw e
-
-  pub other-hop : eqb (p .place .row .0) (p .destination .row .0) ≡ false → otherRow (tripOf w p) (p .place .row .0) (p .place .column .0) (p .last) ≡ hopFrom w p
-  unfolding hopFrom hopAt hop
-  other-hop e = rw e
-
 module _ {columns rows : ℕ} {marks : List ℕ} {p : Packet} {made left : ℕ} (g : Going columns rows marks p made left) where
   pub going-left : 1 ≤ left
   going-left = omega (arith, g .leads .enough)
 
   pub going-on-mesh : Sized columns rows marks × (p .place .row .0 < 64) × (p .place .column .0 < 64)
   going-on-mesh =
-      (g .sized, omega (arith, g .row, g .sized .few-rows), omega (arith, g .column, g .sized .few-columns))
+      let m = g .on-mesh in
+      (m .sized, omega (arith, m .row, m .sized .few-rows), omega (arith, m .column, m .sized .few-columns))
 
   module _ (away : isThere p ≡ false) where
     first : Hops (left - 1) left (tripOf (mesh columns rows marks) p) (at p)
@@ -78,24 +73,59 @@ module _ {columns rows : ℕ} {marks : List ℕ} {p : Packet} {made left : ℕ} 
     first-stays = and-both (first .lawfully) .0
 
     module _ {h : Heading} (is-h : h ≡ hopFrom (mesh columns rows marks) p) where
-      pub going-lands : Lands h (p .place .row .0) (p .place .column .0)
-      going-lands =
+      -- one hop is a leg too
+      runs-one : Runs (mesh columns rows marks) h 1 p
+      unfolding after
+      runs-one =
+          let m = g .on-mesh in
+          record {
+            away = λ i less. let e : i ≡ 0 = omega arith in rw e away;
+            hops = λ i less. let e : i ≡ 0 = omega arith in rw e is-h;
+            lands = rw is-h (stays-lands columns rows _ _ (m .row) (m .column) _ (m .sized .few-columns) (m .sized .few-rows) first-stays);
+          }
+
+      going-on : Going columns rows marks (movedPacket h p) (made + 1) (left - 1)
+      unfolding hopFrom moved
+      going-on =
+          let m = g .on-mesh in
+          let on = stays-on columns rows _ _ (m .row) (m .column) _ first-stays in
           rw is-h
-          (stays-lands columns rows _ _ (g .row) (g .column) _ (g .sized .few-columns) (g .sized .few-rows) first-stays)
+          (record {
+            on-mesh = record { sized = m .sized; row = on .0; column = on .1; to-row = m .to-row; to-column = m .to-column };
+            leads = first .onward;
+            few = omega (arith, g .few, going-left);
+          })
 
-      module _ {q : Packet} (is-q : q ≡ movedPacket h p) where
-        pub going-on : Going columns rows marks q (made + 1) (left - 1)
-        unfolding hopFrom moved
-        going-on =
-            let on = stays-on columns rows _ _ (g .row) (g .column) _ first-stays in
-            rw (is-q, is-h)
-            (record { sized = g .sized; row = on .0; column = on .1; leads = first .onward; few = omega (arith, g .few, going-left) })
+      follows-on : {out : List ℕ} {x : ℕ} {after : List ℕ} → Follows (mesh columns rows marks) (movedPacket h p) (set out made (letter h)) (made + 1) (left - 1) x after → Follows (mesh columns rows marks) p out made left x after
+      unfolding hopFrom moved letters over
+      follows-on f =
+          let f′ = rw is-h at f in
+          record { counts = rw (first .walks) (omega (arith, f′ .counts)); writes = rw (first .walks) (f′ .writes) }
 
-        pub follows-on : {out out′ : List ℕ} → out′ ≡ set out made (letter h) → {x : ℕ} {after : List ℕ} → Follows (mesh columns rows marks) q out′ (made + 1) (left - 1) x after → Follows (mesh columns rows marks) p out made left x after
-        unfolding hopFrom moved letters over
-        follows-on is-out f =
-            let f′ = rw (is-q, is-out, is-h) at f in
-            record { counts = rw (first .walks) (omega (arith, f′ .counts)); writes = rw (first .walks) (f′ .writes) }
+-- n hops that way by the rules
+record Ran (columns rows : ℕ) (marks : List ℕ) (h : Heading) (n : ℕ) (p : Packet) (made left : ℕ) : Type 0 where
+  pub going : Going columns rows marks (after n h p) (made + n) (left - n)
+  pub onward : {out : List ℕ} {x : ℕ} {end : List ℕ} → Follows (mesh columns rows marks) (after n h p) (over out made (replicate n (letter h))) (made + n) (left - n) x end → Follows (mesh columns rows marks) p out made left x end
+  pub enough : n < left
+
+ran : {columns rows : ℕ} {marks : List ℕ} {h : Heading} (n : ℕ) {p : Packet} {made left : ℕ} → Going columns rows marks p made left →
+    ((i : ℕ) → i < n → isThere (after i h p) ≡ false) → ((i : ℕ) → i < n → h ≡ hopFrom (mesh columns rows marks) (after i h p)) → Ran columns rows marks h n p made left
+unfolding after over
+ran zero {p} {made} {left} g away hops =
+    record { going = rw (add-zero, sub-zero) g; onward = λ f. rw (add-zero, sub-zero) at f; enough = going-left g }
+ran {columns} {rows} {marks} {h} (suc n) {p} {made} {left} g away hops =
+    let next = ran n (going-on g (away 0 (omega arith)) (hops 0 (omega arith))) (λ i less. away (suc i) (omega arith)) (λ i less. hops (suc i) (omega arith)) in
+    let m : made + 1 + n ≡ made + suc n = omega arith in
+    let l : left - 1 - n ≡ left - suc n = omega arith in
+    record {
+      going = rw (← m, ← l) (next .going);
+      onward = λ f. follows-on g (away 0 (omega arith)) (hops 0 (omega arith)) (next .onward (rw (← m, ← l) at f));
+      enough = omega (arith, next .enough);
+    }
+
+after-some : (n : ℕ) (h : Heading) (p : Packet) → 1 ≤ n → movedBy h n p ≡ after n h p
+after-some zero h p some = absurd (omega arith)
+after-some (suc n) h p some = sym (after-moved n h p)
 
 -- from p₀ with begun hops made the packet has come to p with made of them
 pub record Along (columns rows : ℕ) (marks : List ℕ) (p₀ : Packet) (out₀ : List ℕ) (begun limit : ℕ) (p : Packet) (out : List ℕ) (made left : ℕ) : Type 0 where
@@ -108,21 +138,22 @@ pub along-none : {columns rows : ℕ} {marks : List ℕ} {p : Packet} {out : Lis
 along-none g = record { going = g; onward = λ f. f; fell = omega arith; size = refl }
 
 module _ {columns rows : ℕ} {marks : List ℕ} {p₀ : Packet} {out₀ : List ℕ} {begun limit : ℕ} {p : Packet} {out : List ℕ} {made left : ℕ} (a : Along columns rows marks p₀ out₀ begun limit p out made left) where
-  pub along-less : left - 1 < limit
-  along-less = omega (arith, a .fell, going-left (a .going))
+  pub along-one : {h : Heading} → isThere p ≡ false → h ≡ hopAt (tripOf (mesh columns rows marks) p) (at p) → Runs (mesh columns rows marks) h 1 p
+  unfolding hopFrom
+  along-one away is-h = runs-one (a .going) away is-h
 
-  module _ {h : Heading} {q : Packet} {out′ : List ℕ} (is-on : (q ≡ movedPacket h p) × (out′ ≡ set out made (letter h))) where
-    along-hop : isThere p ≡ false → h ≡ hopFrom (mesh columns rows marks) p → Along columns rows marks p₀ out₀ begun limit q out′ (made + 1) (left - 1)
-    along-hop away is-h =
-        record {
-          going = going-on (a .going) away is-h (is-on .0);
-          onward = λ f. a .onward (follows-on (a .going) away is-h (is-on .0) (is-on .1) f);
+  module _ {h : Heading} {n : ℕ} (r : Runs (mesh columns rows marks) h n p) where
+    pub along-few : (n < left) × (made + left ≤ hopLimit)
+    along-few = (ran n (a .going) (r .away) (r .hops) .enough, a .going .few)
+
+    pub along-leg : {q : Packet} {out′ : List ℕ} → 1 ≤ n → (q ≡ movedBy h n p) × (out′ ≡ over out made (replicate n (letter h))) → Along columns rows marks p₀ out₀ begun limit q out′ (made + n) (left - n)
+    along-leg {q} {out′} some is-on =
+        let on = ran n (a .going) (r .away) (r .hops) in
+        let is-q : q ≡ after n h p = is-on .0 ∙ after-some n h p some in
+        rw (is-q, is-on .1)
+        (record {
+          going = on .going;
+          onward = λ f. a .onward (on .onward f);
           fell = omega (arith, a .fell);
-          size = rw (is-on .1) (length-set out made (letter h) ∙ a .size);
-        }
-
-    pub along-row : isThere p ≡ false → eqb (p .place .row .0) (p .destination .row .0) ≡ true → h ≡ inRow (tripOf (mesh columns rows marks) p) (p .place .row .0) (p .place .column .0) (p .last) → Along columns rows marks p₀ out₀ begun limit q out′ (made + 1) (left - 1)
-    along-row away on is-h = along-hop away (is-h ∙ row-hop (mesh columns rows marks) p on)
-
-    pub along-other : eqb (p .place .row .0) (p .destination .row .0) ≡ false → h ≡ otherRow (tripOf (mesh columns rows marks) p) (p .place .row .0) (p .place .column .0) (p .last) → Along columns rows marks p₀ out₀ begun limit q out′ (made + 1) (left - 1)
-    along-other off is-h = along-hop (away-row p off) (is-h ∙ other-hop (mesh columns rows marks) p off)
+          size = over-length out made (replicate n (letter h)) ∙ a .size;
+        })

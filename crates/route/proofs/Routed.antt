@@ -50,11 +50,10 @@ module _ (columns rows : ℕ) (marks : List ℕ) (s d : Place) (sized : Sized co
   starts =
       let w = mesh columns rows marks in
       let on = q .placed .source-on in
+      let to = q .placed .destination-on in
       let arrives = request-arrives w s d o q in
       record {
-        sized = sized;
-        row = on-row w s on;
-        column = on-column w s on;
+        on-mesh = record { sized = sized; row = on-row w s on; column = on-column w s on; to-row = on-row w d to; to-column = on-column w d to };
         leads = record { lawfully = rw rest-hops (arrives .route); enough = rw rest-hops (omega (arith, arrives .hops, bound-few)) };
         few = omega arith;
       }

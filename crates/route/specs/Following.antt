@@ -12,7 +12,7 @@ use Rattle.mesh.specs.Walk.{At, lawfulRoute, walk}
 use Rattle.mesh.specs.Packets.{at, tripOf}
 use Rattle.walk_theory.specs.Claims.{mostHops}
 use Rattle.buffers.specs.Over.{over}
-use Rattle.maps.specs.Sized.{Sized}
+use Rattle.travel.specs.Straight.{OnMesh}
 
 -- fewer than n hops by the rules lead lawfully to the destination
 pub record Leads (n : ℕ) (w : Trip) (p : At) : Type 0 where
@@ -27,11 +27,9 @@ rest left w p = walk left (tripOf w p) (at p)
 abbrev pub hopLimit : ℕ
 hopLimit = suc mostHops
 
--- the packet is on the mesh, and fewer hops than left lead to its destination
+-- the packet is on the mesh, and fewer hops than left lead to its destination, which is on it too
 pub record Going (columns rows : ℕ) (marks : List ℕ) (p : Packet) (made left : ℕ) : Type 0 where
-  pub sized : Sized columns rows marks
-  pub row : p .place .row .0 < rows
-  pub column : p .place .column .0 < columns
+  pub on-mesh : OnMesh columns rows marks p
   pub leads : Leads left (tripOf (mesh columns rows marks) p) (at p)
   pub few : made + left ≤ hopLimit
 

@@ -1,21 +1,26 @@
-// The operation "Route". A route is followed in two modes that hand over to each other.
+// The operation "Route". A route is followed in two modes that hand over to each other. Straight travel goes leg by leg: along the
+// destination's row (rule 2, not stopped) and in a column toward it (rule 5, the next node free). Where there is no such leg, at a stop,
+// before a block or with a turn yet to make, the packet goes round, hop by hop, until a hop leads into the destination's row or toward it.
 ghost use mathlib.Core.Path.{_≡_};
-ghost use mathlib.Core.Bool.{true};
-ghost use lib.Dec.{eqb, leb};
-ghost use lib.ListN.{length, set};
+ghost use mathlib.Core.Bool.{false};
+ghost use lib.Dec.{leb};
+ghost use lib.ListN.{length, replicate};
 ghost use Rattle.mesh.specs.Mesh.{mesh, letter};
 ghost use Rattle.mesh.specs.Blocks.{bad, blocks};
-ghost use Rattle.mesh.specs.Packets.{movedPacket};
+ghost use Rattle.mesh.specs.Packets.{isThere};
 ghost use Rattle.mesh.specs.Refusals.{checkedNumber, requestRefusals};
 ghost use Rattle.mesh.specs.Operations.{Routes};
 ghost use Rattle.block_theory.specs.Obstacles.{Obstacles};
 ghost use Rattle.maps.specs.Sized.{Sized};
-ghost use Rattle.hops.specs.Lands.{Lands};
+ghost use Rattle.hops.specs.Moved.{movedBy, Lands};
+ghost use Rattle.buffers.specs.Over.{over};
 ghost use Rattle.route.specs.Following.{hopLimit, rest, Going, Follows};
 ghost use Rattle.route.specs.Marked.{RoutesOn};
-use buffers::set;
+use buffers::fill;
 use hops::is_there;
-use hops::moved;
+use hops::moved_by;
+use travel::is_straight;
+use travel::next_leg;
 use marking::mark_map;
 use mesh::Checked;
 use mesh::Heading;
@@ -26,57 +31,21 @@ use mesh::Refusal;
 use mesh::Routed;
 use places::check_places;
 use places::is_on_ring;
-use rules::in_row;
+use rules::hop;
 use rules::is_unserved;
-use rules::other_row;
 use turns::letter;
 
-// Whether the packet is in its destination's row.
-fn is_in_row(p: Packet) -> bool
-    ensures { λ x. ⌜ x ≡ eqb (p .place .row .0) (p .destination .row .0) ⌝ }
+// The packet after n hops that way, whose letters are written from index made on, as far as there is room for them.
+fn advance(p: Packet, h: Heading, n: u32, out: &mut [u8], made: u32) -> Packet
+    requires { ⌜ Lands h n (p .place .row .0) (p .place .column .0) ⌝ }
+    ensures { λ x. ⌜ (x ≡ movedBy h n p) × (now (out .exit) ≡ over (now (out .entry)) made (replicate n (letter h))) ⌝ }
 {
-    p.place.row.0 == p.destination.row.0
+    fill(out, made as usize, n as usize, letter(h));
+    moved_by(p, h, n)
 }
 
-// The packet after the hop, whose letter is written at index made, if there is room for it.
-fn advance(p: Packet, h: Heading, out: &mut [u8], made: u32) -> Packet
-    requires { ⌜ Lands h (p .place .row .0) (p .place .column .0) ⌝ }
-    ensures { λ x. ⌜ (x ≡ movedPacket h p) × (now (out .exit) ≡ set (now (out .entry)) made (letter h)) ⌝ }
-{
-    set(out, made as usize, letter(h));
-    moved(p, h)
-}
-
-// Straight travel along the destination's row. Where the packet is stopped it leaves the row: it goes round a block.
+// Straight travel, leg by leg. Where no leg leads on the packet goes round.
 fn straight(
-    columns: u32,
-    rows: u32,
-    marks: &[u8],
-    packet: Packet,
-    out: &mut [u8],
-    begun: u32,
-    limit: u32,
-) -> u32
-    requires { ⌜ Going columns rows (now marks) packet begun limit × (eqb (packet .place .row .0) (packet .destination .row .0) ≡ true) ⌝ }
-    ensures { λ x. ⌜ Follows (mesh columns rows (now (marks .entry))) packet (now (out .entry)) begun limit x (now (out .exit)) ⌝ }
-{
-    let mut p = packet;
-    let mut made = begun;
-    let mut left = limit;
-    while !is_there(p) {
-        let h = in_row(columns, rows, marks, p);
-        p = advance(p, h, out, made);
-        made += 1;
-        left -= 1;
-        if !is_in_row(p) {
-            return round_block(columns, rows, marks, p, out, made, left);
-        }
-    }
-    made
-}
-
-// Travel in other rows, round the blocks and to the destination's row; then straight on.
-fn round_block(
     columns: u32,
     rows: u32,
     marks: &[u8],
@@ -91,13 +60,45 @@ fn round_block(
     let mut p = packet;
     let mut made = begun;
     let mut left = limit;
-    while !is_in_row(p) {
-        let h = other_row(columns, rows, marks, p);
-        p = advance(p, h, out, made);
+    while !is_there(p) {
+        let on = next_leg(columns, rows, marks, p);
+        let h = on.heading;
+        let n = on.hops;
+        if n == 0 {
+            return round_block(columns, rows, marks, p, out, made, left);
+        }
+        p = advance(p, h, n, out, made);
+        made += n;
+        left -= n;
+    }
+    made
+}
+
+// Travel round a block, hop by hop: away from the destination's row, to the side and to the first hop back. Then straight on.
+fn round_block(
+    columns: u32,
+    rows: u32,
+    marks: &[u8],
+    packet: Packet,
+    out: &mut [u8],
+    begun: u32,
+    limit: u32,
+) -> u32
+    requires { ⌜ Going columns rows (now marks) packet begun limit × (isThere packet ≡ false) ⌝ }
+    ensures { λ x. ⌜ Follows (mesh columns rows (now (marks .entry))) packet (now (out .entry)) begun limit x (now (out .exit)) ⌝ }
+{
+    let mut p = packet;
+    let mut made = begun;
+    let mut left = limit;
+    loop {
+        let h = hop(columns, rows, marks, p);
+        p = advance(p, h, 1, out, made);
         made += 1;
         left -= 1;
+        if is_straight(p) {
+            return straight(columns, rows, marks, p, out, made, left);
+        }
     }
-    straight(columns, rows, marks, p, out, made, left)
 }
 
 // Whether the hops from here to the destination fit into so many bytes. No route has more than 4034; for less room they are counted first,
@@ -110,7 +111,7 @@ fn has_room(columns: u32, rows: u32, marks: &[u8], packet: Packet, room: usize) 
         return true;
     }
     let mut nowhere = [0u8; 1];
-    let hops = round_block(columns, rows, marks, packet, &mut nowhere, 0, 4035);
+    let hops = straight(columns, rows, marks, packet, &mut nowhere, 0, 4035);
     hops as usize <= room
 }
 
@@ -156,7 +157,7 @@ pub fn route_marked(
     if !has_room(columns, rows, marks, fresh, out.len()) {
         return Routed::Refused(Refusal::Room);
     }
-    let hops = round_block(columns, rows, marks, fresh, out, 0, 4035);
+    let hops = straight(columns, rows, marks, fresh, out, 0, 4035);
     Routed::Hops(hops)
 }
 

@@ -21,7 +21,7 @@ use turns::is_same;
 use turns::is_vertical;
 
 // The side of that column, from this one: E if it is greater, else W.
-fn side(from: Column, to: Column) -> Heading
+pub fn side(from: Column, to: Column) -> Heading
     ensures { λ x. ⌜ ((w : Mesh) (R : ℕ) → x ≡ side (tripOn w R (to .0)) (from .0)) ⌝ }
 {
     if from.0 < to.0 {
@@ -31,7 +31,7 @@ fn side(from: Column, to: Column) -> Heading
 }
 
 // The vertical direction from this row to that one.
-fn toward(from: Row, to: Row) -> Heading
+pub fn toward(from: Row, to: Row) -> Heading
     ensures { λ x. ⌜ ((w : Mesh) (C : ℕ) → x ≡ toward (tripOn w (to .0) C) (from .0)) ⌝ }
 {
     if from.0 < to.0 {
@@ -54,7 +54,7 @@ fn is_own(s: Heading, c: Column) -> bool
 }
 
 // Whether the packet is stopped: the next node to the side is in a block, or the second one is and the column permits the side's turns.
-fn is_stopped(columns: u32, rows: u32, marks: &[u8], p: Packet) -> bool
+pub fn is_stopped(columns: u32, rows: u32, marks: &[u8], p: Packet) -> bool
     requires { ⌜ Sized columns rows (now marks) × (p .place .row .0 < 64) × (p .place .column .0 < 64) ⌝ }
     ensures { λ x. ⌜ x ≡ stopped (tripOf (mesh columns rows (now (marks .entry))) p) (p .place .row .0) (p .place .column .0) ⌝ }
 {
@@ -97,7 +97,7 @@ fn leaving(columns: u32, rows: u32, marks: &[u8], p: Packet, h: Heading) -> Head
 }
 
 // Rule 2, in the destination's row: as rule 3, with the hop that a stop asks for.
-pub fn in_row(columns: u32, rows: u32, marks: &[u8], p: Packet) -> Heading
+fn in_row(columns: u32, rows: u32, marks: &[u8], p: Packet) -> Heading
     requires { ⌜ Sized columns rows (now marks) × (p .place .row .0 < 64) × (p .place .column .0 < 64) ⌝ }
     ensures { λ x. ⌜ x ≡ inRow (tripOf (mesh columns rows (now (marks .entry))) p) (p .place .row .0) (p .place .column .0) (p .last) ⌝ }
 {
@@ -156,7 +156,7 @@ fn after(columns: u32, rows: u32, marks: &[u8], p: Packet, h: Heading) -> Headin
 }
 
 // Rules 3 to 6, in another row than the destination's.
-pub fn other_row(columns: u32, rows: u32, marks: &[u8], p: Packet) -> Heading
+fn other_row(columns: u32, rows: u32, marks: &[u8], p: Packet) -> Heading
     requires { ⌜ Sized columns rows (now marks) × (p .place .row .0 < 64) × (p .place .column .0 < 64) ⌝ }
     ensures { λ x. ⌜ x ≡ otherRow (tripOf (mesh columns rows (now (marks .entry))) p) (p .place .row .0) (p .place .column .0) (p .last) ⌝ }
 {

@@ -4,6 +4,7 @@ use mathlib.Core.Path.{sym, _∙_}
 use borrow.Author.Tests.{not-false}
 use Rattle.mesh.specs.Walk.{moved}
 use Rattle.hops.proofs.Landing.{stays-lands, stays-on}
+use Rattle.hops.proofs.Ways.{moved-one}
 use Rattle.hops.proofs.Testing.{leaves, turns-back, turns-wrong, enters, passes}
 use Rattle.hops.proofs.test_hop.Statement.{statement}
 use Rattle.hops.proofs.test_hop.Tie as tie
@@ -14,8 +15,8 @@ stays-requires c κs = search needs
 returns : tie.Need-returns
 returns c = leaves _ _ _ (c .before .stays .ensures) (c .if1 .taken)
 
-moved-requires : tie.Need-moved-requires
-moved-requires c κs = let (size, row, column) = c .before .before .before .before .before .pre in stays-lands _ _ _ _ row column _ (size .few-columns) (size .few-rows) (sym (c .before .stays .ensures) ∙ not-false _ (c .if1 .left))
+moved-by-requires : tie.Need-moved-by-requires
+moved-by-requires c κs = let (size, row, column) = c .before .before .before .before .before .pre in stays-lands _ _ _ _ row column _ (size .few-columns) (size .few-rows) (sym (c .before .stays .ensures) ∙ not-false _ (c .if1 .left))
 
 turns-back-requires : tie.Need-turns-back-requires
 turns-back-requires c κs = search needs
@@ -31,13 +32,13 @@ returns-3 c = turns-wrong _ _ _ (c .before .before .before .before .before .befo
 
 is-bad-node-requires : tie.Need-is-bad-node-requires
 unfolding moved
-is-bad-node-requires c κs = let (size, row, column) = c .before .before .before .before .before .before .before .before .before .before .pre in let on = stays-on _ _ _ _ row column _ (sym (c .before .before .before .before .before .before .stays .ensures) ∙ not-false _ (c .before .before .before .before .before .if1 .left)) in rw (c .before .before .before .before .moved .ensures) (size, on .0, on .1)
+is-bad-node-requires c κs = let (size, row, column) = c .before .before .before .before .before .before .before .before .before .before .pre in let on = stays-on _ _ _ _ row column _ (sym (c .before .before .before .before .before .before .stays .ensures) ∙ not-false _ (c .before .before .before .before .before .if1 .left)) in rw (c .before .before .before .before .moved-by .ensures ∙ moved-one _ _) (size, on .0, on .1)
 
 returns-4 : tie.Need-returns-4
-returns-4 c = enters _ _ _ (c .before .before .before .before .before .before .before .before .stays .ensures) (c .before .before .before .before .before .before .before .if1 .left) (c .before .before .before .before .before .turns-back .ensures) (c .before .before .before .before .if2 .left) (c .before .before .before .turns-wrong .ensures) (c .before .before .if3 .left) (c .before .before .before .before .before .before .moved .ensures) (c .before .is-bad-node .ensures) (c .if4 .taken)
+returns-4 c = enters _ _ _ (c .before .before .before .before .before .before .before .before .stays .ensures) (c .before .before .before .before .before .before .before .if1 .left) (c .before .before .before .before .before .turns-back .ensures) (c .before .before .before .before .if2 .left) (c .before .before .before .turns-wrong .ensures) (c .before .before .if3 .left) (c .before .before .before .before .before .before .moved-by .ensures ∙ moved-one _ _) (c .before .is-bad-node .ensures) (c .if4 .taken)
 
 returns-5 : tie.Need-returns-5
-returns-5 c = passes _ _ _ (c .before .before .before .before .before .before .before .before .stays .ensures) (c .before .before .before .before .before .before .before .if1 .left) (c .before .before .before .before .before .turns-back .ensures) (c .before .before .before .before .if2 .left) (c .before .before .before .turns-wrong .ensures) (c .before .before .if3 .left) (c .before .before .before .before .before .before .moved .ensures) (c .before .is-bad-node .ensures) (c .if4 .left)
+returns-5 c = passes _ _ _ (c .before .before .before .before .before .before .before .before .stays .ensures) (c .before .before .before .before .before .before .before .if1 .left) (c .before .before .before .before .before .turns-back .ensures) (c .before .before .before .before .if2 .left) (c .before .before .before .turns-wrong .ensures) (c .before .before .if3 .left) (c .before .before .before .before .before .before .moved-by .ensures ∙ moved-one _ _) (c .before .is-bad-node .ensures) (c .if4 .left)
 
 pub test-hop-spec : {M : Type 1} → statement M
 test-hop-spec =
@@ -45,7 +46,7 @@ test-hop-spec =
     (tie.spec
     stays-requires
     returns
-    moved-requires
+    moved-by-requires
     turns-back-requires
     returns-2
     turns-wrong-requires

@@ -1,16 +1,18 @@
--- The two modes: one walk, and what falls is the hop limit less the hops made, counted twice and one more off the row. Assumes nothing.
+-- The two modes: one walk, leg by leg. What falls is the hop limit less the hops made, counted twice and one more in straight travel, which
+-- may hand over at once. Assumes nothing.
 use mathlib.Core.Path.{_≡_, sym, _∙_}
-use mathlib.Core.Bool.{true}
+use mathlib.Core.Bool.{false}
 use Prim.Native.Nat.{ℕ, _<_, _+_, _*_}
 use native.Mathlib.Omega.{arith}
 use borrow.Author.Tests.{not-true, not-false}
 use borrow.Fn.Kinds.{In}
 use borrow.Fn.PlainCycle.{Measures, is, falls, and}
-use lib.Dec.{eqb}
+use Rattle.mesh.specs.Packets.{isThere}
 use Rattle.hops.proofs.is_there.Reads as is-there-reads
-use Rattle.rules.proofs.in_row.Reads as in-row-reads
-use Rattle.rules.proofs.other_row.Reads as other-row-reads
-use Rattle.route.proofs.Following.{away-row, row-hop, other-hop, follows-there, going-left, going-on-mesh, going-lands, Along, along-none, along-less, along-row, along-other}
+use Rattle.rules.proofs.hop.Reads as hop-reads
+use Rattle.travel.proofs.is_straight.Reads as is-straight-reads
+use Rattle.travel.proofs.next_leg.Reads as next-leg-reads
+use Rattle.route.proofs.Following.{away-round, follows-there, going-on-mesh, Along, along-none, along-one, along-few, along-leg}
 use Rattle.route.proofs.round_block.Reads as round-block
 use Rattle.route.proofs.round_block.Kinds as round-block-kinds
 use Rattle.route.proofs.+round_block+straight.Lts-round_block as round-block-lts
@@ -18,15 +20,14 @@ use Rattle.route.proofs.straight.Reads as straight
 use Rattle.route.proofs.straight.Kinds as straight-kinds
 use Rattle.route.proofs.+round_block+straight.Lts-straight as straight-lts
 use Rattle.route.proofs.advance.Reads as advance-reads
-use Rattle.route.proofs.is_in_row.Reads as is-in-row-reads
 use Rattle.route.proofs.+round_block+straight.{statement}
 use Rattle.route.proofs.+round_block+straight.Tie.{close}
 
 abbrev μ-round-block : Measures 2 round-block-kinds.ps ℕ
-μ-round-block κs a = 2 * a .1 .1 .1 .1 .1 .1 .0 + 1
+μ-round-block κs a = 2 * a .1 .1 .1 .1 .1 .1 .0
 
 abbrev μ-straight : Measures 2 straight-kinds.ps ℕ
-μ-straight κs a = 2 * a .1 .1 .1 .1 .1 .1 .0
+μ-straight κs a = 2 * a .1 .1 .1 .1 .1 .1 .0 + 1
 
 abbrev round-block-at : ℕ → In 2 round-block-kinds.ps
 round-block-at t =
@@ -45,97 +46,94 @@ straight-below t =
 
 -- what the callees ask and give, below the measure t
 abbrev round-block-callees : ℕ → round-block-lts.Claims
-round-block-callees t = (is-in-row-reads.Asked, is-in-row-reads.Learnt, other-row-reads.Asked, other-row-reads.Learnt, advance-reads.Asked, advance-reads.Learnt, straight-below t, straight.Post)
+round-block-callees t = (hop-reads.Asked, hop-reads.Learnt, advance-reads.Asked, advance-reads.Learnt, is-straight-reads.Asked, is-straight-reads.Learnt, straight-below t, straight.Post)
 
 abbrev straight-callees : ℕ → straight-lts.Claims
-straight-callees t = (is-there-reads.Asked, is-there-reads.Learnt, in-row-reads.Asked, in-row-reads.Learnt, advance-reads.Asked, advance-reads.Learnt, is-in-row-reads.Asked, is-in-row-reads.Learnt, round-block-below t, round-block.Post)
+straight-callees t = (is-there-reads.Asked, is-there-reads.Learnt, next-leg-reads.Asked, next-leg-reads.Learnt, round-block-below t, round-block.Post, advance-reads.Asked, advance-reads.Learnt)
 
 abbrev round-block-Inv-loop : round-block-lts.InvT-loop
-round-block-Inv-loop columns rows marks out₀ begun limit p₀ made₀ left₀ out p made left = Along columns rows marks p₀ out₀ begun limit p out made left
+round-block-Inv-loop columns rows marks out₀ begun limit p₀ made₀ left₀ out p made left = Along columns rows marks p₀ out₀ begun limit p out made left × (isThere p ≡ false)
 
 abbrev round-block-μ-loop : round-block-lts.MeasureT-loop
 round-block-μ-loop columns rows marks out₀ begun limit p₀ made₀ left₀ out p made left = left
 
-round-block-loop-holds : (t : ℕ) → round-block-lts.Need-loop-holds (round-block-callees t) (round-block-at t) round-block.Post round-block-Inv-loop round-block-μ-loop
-round-block-loop-holds t c = along-none (c .before .before .pre .1)
-
-round-block-is-in-row-requires : (t : ℕ) → round-block-lts.Need-is-in-row-requires (round-block-callees t) (round-block-at t) round-block.Post round-block-Inv-loop round-block-μ-loop
-round-block-is-in-row-requires t c κs = tt
-
-round-block-other-row-requires : (t : ℕ) → round-block-lts.Need-other-row-requires (round-block-callees t) (round-block-at t) round-block.Post round-block-Inv-loop round-block-μ-loop
-round-block-other-row-requires t c κs = going-on-mesh (c .before .before .loop .inv .going)
-
-round-block-advance-requires : (t : ℕ) → round-block-lts.Need-advance-requires (round-block-callees t) (round-block-at t) round-block.Post round-block-Inv-loop round-block-μ-loop
-round-block-advance-requires t c κs = let off = sym (c .before .before .before .is-in-row .ensures) ∙ not-true _ (c .before .before .if1 .taken) in going-lands (c .before .before .before .before .loop .inv .going) (away-row _ off) (c .before .other-row .ensures ∙ other-hop _ _ off)
-
-round-block-add-made : (t : ℕ) → round-block-lts.Need-add-made (round-block-callees t) (round-block-at t) round-block.Post round-block-Inv-loop round-block-μ-loop
-round-block-add-made t c = omega (arith, c .before .before .before .before .before .before .before .loop .inv .going .few)
-
-round-block-sub-left : (t : ℕ) → round-block-lts.Need-sub-left (round-block-callees t) (round-block-at t) round-block.Post round-block-Inv-loop round-block-μ-loop
-round-block-sub-left t c = going-left (c .before .before .before .before .before .before .before .loop .inv .going)
-
-round-block-loop-less : (t : ℕ) → round-block-lts.Need-loop-less (round-block-callees t) (round-block-at t) round-block.Post round-block-Inv-loop round-block-μ-loop
-round-block-loop-less t c = omega (arith, going-left (c .before .before .before .before .before .before .before .loop .inv .going))
-
-round-block-loop-again : (t : ℕ) → round-block-lts.Need-loop-again (round-block-callees t) (round-block-at t) round-block.Post round-block-Inv-loop round-block-μ-loop
-round-block-loop-again t c = along-other (c .before .before .before .before .before .before .before .loop .inv) (c .before .before .advance .ensures) (sym (c .before .before .before .before .before .before .is-in-row .ensures) ∙ not-true _ (c .before .before .before .before .before .if1 .taken)) (c .before .before .before .before .other-row .ensures)
-
-round-block-straight-requires : (t : ℕ) → round-block-lts.Need-straight-requires (round-block-callees t) (round-block-at t) round-block.Post round-block-Inv-loop round-block-μ-loop
-round-block-straight-requires t c κs = (omega (arith, c .before .before .before .before .before .before .pre .0, c .before .before .before .loop .inv .fell), (c .before .before .before .loop .inv .going, sym (c .before .before .is-in-row .ensures) ∙ not-false _ (c .before .if1 .left)))
-
-round-block-same-length : (t : ℕ) → round-block-lts.Need-same-length (round-block-callees t) (round-block-at t) round-block.Post round-block-Inv-loop round-block-μ-loop
-round-block-same-length t c = c .before .before .straight .kept .1 .1 .1 .1 .0 ∙ c .before .before .before .before .before .before .loop .inv .size
-
-round-block-returns : (t : ℕ) → round-block-lts.Need-returns (round-block-callees t) (round-block-at t) round-block.Post round-block-Inv-loop round-block-μ-loop
-round-block-returns t c = c .before .before .before .before .before .before .loop .inv .onward (c .before .before .straight .ensures)
-
 abbrev straight-Inv-loop : straight-lts.InvT-loop
-straight-Inv-loop columns rows marks out₀ begun limit p₀ made₀ left₀ out p made left = Along columns rows marks p₀ out₀ begun limit p out made left × (eqb (p .place .row .0) (p .destination .row .0) ≡ true)
+straight-Inv-loop columns rows marks out₀ begun limit p₀ made₀ left₀ out p made left = Along columns rows marks p₀ out₀ begun limit p out made left
 
 abbrev straight-μ-loop : straight-lts.MeasureT-loop
 straight-μ-loop columns rows marks out₀ begun limit p₀ made₀ left₀ out p made left = left
 
+round-block-loop-holds : (t : ℕ) → round-block-lts.Need-loop-holds (round-block-callees t) (round-block-at t) round-block.Post round-block-Inv-loop round-block-μ-loop
+round-block-loop-holds t c = (along-none (c .before .before .pre .1 .0), c .before .before .pre .1 .1)
+
+round-block-hop-requires : (t : ℕ) → round-block-lts.Need-hop-requires (round-block-callees t) (round-block-at t) round-block.Post round-block-Inv-loop round-block-μ-loop
+round-block-hop-requires t c κs = going-on-mesh (c .loop .inv .0 .going)
+
+round-block-advance-requires : (t : ℕ) → round-block-lts.Need-advance-requires (round-block-callees t) (round-block-at t) round-block.Post round-block-Inv-loop round-block-μ-loop
+round-block-advance-requires t c κs = (along-one (c .before .before .loop .inv .0) (c .before .before .loop .inv .1) (c .before .hop .ensures)) .lands
+
+round-block-add-made : (t : ℕ) → round-block-lts.Need-add-made (round-block-callees t) (round-block-at t) round-block.Post round-block-Inv-loop round-block-μ-loop
+round-block-add-made t c = omega (arith, along-few (c .before .before .before .before .before .loop .inv .0) (along-one (c .before .before .before .before .before .loop .inv .0) (c .before .before .before .before .before .loop .inv .1) (c .before .before .before .before .hop .ensures)))
+
+round-block-sub-left : (t : ℕ) → round-block-lts.Need-sub-left (round-block-callees t) (round-block-at t) round-block.Post round-block-Inv-loop round-block-μ-loop
+round-block-sub-left t c = omega (arith, along-few (c .before .before .before .before .before .loop .inv .0) (along-one (c .before .before .before .before .before .loop .inv .0) (c .before .before .before .before .before .loop .inv .1) (c .before .before .before .before .hop .ensures)))
+
+round-block-is-straight-requires : (t : ℕ) → round-block-lts.Need-is-straight-requires (round-block-callees t) (round-block-at t) round-block.Post round-block-Inv-loop round-block-μ-loop
+round-block-is-straight-requires t c κs = tt
+
+round-block-straight-requires : (t : ℕ) → round-block-lts.Need-straight-requires (round-block-callees t) (round-block-at t) round-block.Post round-block-Inv-loop round-block-μ-loop
+round-block-straight-requires t c κs = (omega (arith, c .before .before .before .before .before .before .before .before .before .before .before .pre .0, c .before .before .before .before .before .before .before .before .loop .inv .0 .fell, along-few (c .before .before .before .before .before .before .before .before .loop .inv .0) (along-one (c .before .before .before .before .before .before .before .before .loop .inv .0) (c .before .before .before .before .before .before .before .before .loop .inv .1) (c .before .before .before .before .before .before .before .hop .ensures))), (along-leg (c .before .before .before .before .before .before .before .before .loop .inv .0) (along-one (c .before .before .before .before .before .before .before .before .loop .inv .0) (c .before .before .before .before .before .before .before .before .loop .inv .1) (c .before .before .before .before .before .before .before .hop .ensures)) (omega arith) (c .before .before .before .before .before .advance .ensures)) .going)
+
+round-block-same-length : (t : ℕ) → round-block-lts.Need-same-length (round-block-callees t) (round-block-at t) round-block.Post round-block-Inv-loop round-block-μ-loop
+round-block-same-length t c = c .before .before .straight .kept .1 .1 .1 .1 .0 ∙ (along-leg (c .before .before .before .before .before .before .before .before .before .before .before .loop .inv .0) (along-one (c .before .before .before .before .before .before .before .before .before .before .before .loop .inv .0) (c .before .before .before .before .before .before .before .before .before .before .before .loop .inv .1) (c .before .before .before .before .before .before .before .before .before .before .hop .ensures)) (omega arith) (c .before .before .before .before .before .before .before .before .advance .ensures)) .size
+
+round-block-returns : (t : ℕ) → round-block-lts.Need-returns (round-block-callees t) (round-block-at t) round-block.Post round-block-Inv-loop round-block-μ-loop
+round-block-returns t c = (along-leg (c .before .before .before .before .before .before .before .before .before .before .before .loop .inv .0) (along-one (c .before .before .before .before .before .before .before .before .before .before .before .loop .inv .0) (c .before .before .before .before .before .before .before .before .before .before .before .loop .inv .1) (c .before .before .before .before .before .before .before .before .before .before .hop .ensures)) (omega arith) (c .before .before .before .before .before .before .before .before .advance .ensures)) .onward (c .before .before .straight .ensures)
+
+round-block-loop-less : (t : ℕ) → round-block-lts.Need-loop-less (round-block-callees t) (round-block-at t) round-block.Post round-block-Inv-loop round-block-μ-loop
+round-block-loop-less t c = omega (arith, along-few (c .before .before .before .before .before .before .before .loop .inv .0) (along-one (c .before .before .before .before .before .before .before .loop .inv .0) (c .before .before .before .before .before .before .before .loop .inv .1) (c .before .before .before .before .before .before .hop .ensures)))
+
+round-block-loop-again : (t : ℕ) → round-block-lts.Need-loop-again (round-block-callees t) (round-block-at t) round-block.Post round-block-Inv-loop round-block-μ-loop
+round-block-loop-again t c = (along-leg (c .before .before .before .before .before .before .before .loop .inv .0) (along-one (c .before .before .before .before .before .before .before .loop .inv .0) (c .before .before .before .before .before .before .before .loop .inv .1) (c .before .before .before .before .before .before .hop .ensures)) (omega arith) (c .before .before .before .before .advance .ensures), away-round _ (c .before .is-straight .ensures) (c .if1 .left))
+
 straight-loop-holds : (t : ℕ) → straight-lts.Need-loop-holds (straight-callees t) (straight-at t) straight.Post straight-Inv-loop straight-μ-loop
-straight-loop-holds t c = (along-none (c .before .before .pre .1 .0), c .before .before .pre .1 .1)
+straight-loop-holds t c = along-none (c .before .before .pre .1)
 
 straight-is-there-requires : (t : ℕ) → straight-lts.Need-is-there-requires (straight-callees t) (straight-at t) straight.Post straight-Inv-loop straight-μ-loop
 straight-is-there-requires t c κs = tt
 
-straight-in-row-requires : (t : ℕ) → straight-lts.Need-in-row-requires (straight-callees t) (straight-at t) straight.Post straight-Inv-loop straight-μ-loop
-straight-in-row-requires t c κs = going-on-mesh (c .before .before .loop .inv .0 .going)
-
-straight-advance-requires : (t : ℕ) → straight-lts.Need-advance-requires (straight-callees t) (straight-at t) straight.Post straight-Inv-loop straight-μ-loop
-straight-advance-requires t c κs = going-lands (c .before .before .before .before .loop .inv .0 .going) (sym (c .before .before .before .is-there .ensures) ∙ not-true _ (c .before .before .if1 .taken)) (c .before .in-row .ensures ∙ row-hop _ _ (c .before .before .before .before .loop .inv .1))
-
-straight-add-made : (t : ℕ) → straight-lts.Need-add-made (straight-callees t) (straight-at t) straight.Post straight-Inv-loop straight-μ-loop
-straight-add-made t c = omega (arith, c .before .before .before .before .before .before .before .loop .inv .0 .going .few)
-
-straight-sub-left : (t : ℕ) → straight-lts.Need-sub-left (straight-callees t) (straight-at t) straight.Post straight-Inv-loop straight-μ-loop
-straight-sub-left t c = going-left (c .before .before .before .before .before .before .before .loop .inv .0 .going)
-
-straight-is-in-row-requires : (t : ℕ) → straight-lts.Need-is-in-row-requires (straight-callees t) (straight-at t) straight.Post straight-Inv-loop straight-μ-loop
-straight-is-in-row-requires t c κs = tt
+straight-next-leg-requires : (t : ℕ) → straight-lts.Need-next-leg-requires (straight-callees t) (straight-at t) straight.Post straight-Inv-loop straight-μ-loop
+straight-next-leg-requires t c κs = c .before .before .loop .inv .going .on-mesh
 
 straight-round-block-requires : (t : ℕ) → straight-lts.Need-round-block-requires (straight-callees t) (straight-at t) straight.Post straight-Inv-loop straight-μ-loop
-straight-round-block-requires t c κs = (omega (arith, c .before .before .before .before .before .before .before .before .before .before .before .before .before .pre .0, along-less (c .before .before .before .before .before .before .before .before .before .before .loop .inv .0)), ((along-row (c .before .before .before .before .before .before .before .before .before .before .loop .inv .0) (c .before .before .before .before .before .advance .ensures) (sym (c .before .before .before .before .before .before .before .before .before .is-there .ensures) ∙ not-true _ (c .before .before .before .before .before .before .before .before .if1 .taken)) (c .before .before .before .before .before .before .before .before .before .before .loop .inv .1) (c .before .before .before .before .before .before .before .in-row .ensures)) .going))
+straight-round-block-requires t c κs = (omega (arith, c .before .before .before .before .before .before .before .before .pre .0, c .before .before .before .before .before .loop .inv .fell), (c .before .before .before .before .before .loop .inv .going, sym (c .before .before .before .before .is-there .ensures) ∙ not-true _ (c .before .before .before .if1 .taken)))
 
 straight-same-length : (t : ℕ) → straight-lts.Need-same-length (straight-callees t) (straight-at t) straight.Post straight-Inv-loop straight-μ-loop
-straight-same-length t c = c .before .before .round-block .kept .1 .1 .1 .1 .0 ∙ (along-row (c .before .before .before .before .before .before .before .before .before .before .before .before .before .loop .inv .0) (c .before .before .before .before .before .before .before .before .advance .ensures) (sym (c .before .before .before .before .before .before .before .before .before .before .before .before .is-there .ensures) ∙ not-true _ (c .before .before .before .before .before .before .before .before .before .before .before .if1 .taken)) (c .before .before .before .before .before .before .before .before .before .before .before .before .before .loop .inv .1) (c .before .before .before .before .before .before .before .before .before .before .in-row .ensures)) .size
+straight-same-length t c = c .before .before .round-block .kept .1 .1 .1 .1 .0 ∙ c .before .before .before .before .before .before .before .before .loop .inv .size
 
 straight-returns : (t : ℕ) → straight-lts.Need-returns (straight-callees t) (straight-at t) straight.Post straight-Inv-loop straight-μ-loop
-straight-returns t c = (along-row (c .before .before .before .before .before .before .before .before .before .before .before .before .before .loop .inv .0) (c .before .before .before .before .before .before .before .before .advance .ensures) (sym (c .before .before .before .before .before .before .before .before .before .before .before .before .is-there .ensures) ∙ not-true _ (c .before .before .before .before .before .before .before .before .before .before .before .if1 .taken)) (c .before .before .before .before .before .before .before .before .before .before .before .before .before .loop .inv .1) (c .before .before .before .before .before .before .before .before .before .before .in-row .ensures)) .onward (c .before .before .round-block .ensures)
+straight-returns t c = c .before .before .before .before .before .before .before .before .loop .inv .onward (c .before .before .round-block .ensures)
+
+straight-advance-requires : (t : ℕ) → straight-lts.Need-advance-requires (straight-callees t) (straight-at t) straight.Post straight-Inv-loop straight-μ-loop
+straight-advance-requires t c κs = c .before .before .next-leg .ensures .lands
+
+straight-add-made : (t : ℕ) → straight-lts.Need-add-made (straight-callees t) (straight-at t) straight.Post straight-Inv-loop straight-μ-loop
+straight-add-made t c = omega (arith, along-few (c .before .before .before .before .before .before .before .before .loop .inv) (c .before .before .before .before .before .next-leg .ensures))
+
+straight-sub-left : (t : ℕ) → straight-lts.Need-sub-left (straight-callees t) (straight-at t) straight.Post straight-Inv-loop straight-μ-loop
+straight-sub-left t c = omega (arith, along-few (c .before .before .before .before .before .before .before .before .loop .inv) (c .before .before .before .before .before .next-leg .ensures))
 
 straight-loop-less : (t : ℕ) → straight-lts.Need-loop-less (straight-callees t) (straight-at t) straight.Post straight-Inv-loop straight-μ-loop
-straight-loop-less t c = omega (arith, going-left (c .before .before .before .before .before .before .before .before .before .loop .inv .0 .going))
+straight-loop-less t c = omega (arith, along-few (c .before .before .before .before .before .before .before .before .loop .inv) (c .before .before .before .before .before .next-leg .ensures))
 
 straight-loop-again : (t : ℕ) → straight-lts.Need-loop-again (straight-callees t) (straight-at t) straight.Post straight-Inv-loop straight-μ-loop
-straight-loop-again t c = (along-row (c .before .before .before .before .before .before .before .before .before .loop .inv .0) (c .before .before .before .before .advance .ensures) (sym (c .before .before .before .before .before .before .before .before .is-there .ensures) ∙ not-true _ (c .before .before .before .before .before .before .before .if1 .taken)) (c .before .before .before .before .before .before .before .before .before .loop .inv .1) (c .before .before .before .before .before .before .in-row .ensures), sym (c .before .is-in-row .ensures) ∙ not-false _ (c .if2 .left))
+straight-loop-again t c = along-leg (c .before .before .before .before .before .before .before .before .loop .inv) (c .before .before .before .before .before .next-leg .ensures) (omega arith) (c .before .before .advance .ensures)
 
 straight-same-length-2 : (t : ℕ) → straight-lts.Need-same-length-2 (straight-callees t) (straight-at t) straight.Post straight-Inv-loop straight-μ-loop
-straight-same-length-2 t c = c .before .before .loop .inv .0 .size
+straight-same-length-2 t c = c .before .before .loop .inv .size
 
 straight-returns-2 : (t : ℕ) → straight-lts.Need-returns-2 (straight-callees t) (straight-at t) straight.Post straight-Inv-loop straight-μ-loop
-straight-returns-2 t c = c .before .before .loop .inv .0 .onward (follows-there _ _ _ _ _ (sym (c .before .is-there .ensures) ∙ not-false _ (c .if1 .left)))
+straight-returns-2 t c = c .before .before .loop .inv .onward (follows-there _ _ _ _ _ (sym (c .before .is-there .ensures) ∙ not-false _ (c .if1 .left)))
 
 pub +round-block+straight-spec : {M : Type 1} → statement M
 +round-block+straight-spec = close μ-round-block μ-straight (λ t. round-block-lts.spec (round-block-callees t)
@@ -144,31 +142,39 @@ pub +round-block+straight-spec : {M : Type 1} → statement M
     round-block-Inv-loop
     round-block-μ-loop
     (round-block-loop-holds t)
-    (round-block-is-in-row-requires t)
-    (round-block-other-row-requires t)
+    (round-block-hop-requires t)
     (round-block-advance-requires t)
     (round-block-add-made t)
     (round-block-sub-left t)
-    (round-block-loop-less t)
-    (round-block-loop-again t)
+    (round-block-is-straight-requires t)
     (round-block-straight-requires t)
     (round-block-same-length t)
-    (round-block-returns t))
-    λ t. straight-lts.spec (straight-callees t)
+    (round-block-returns t)
+    (round-block-loop-less t)
+    (round-block-loop-again t))
+    λ t. straight-lts.spec (
+      is-there-reads.Asked,
+      is-there-reads.Learnt,
+      next-leg-reads.Asked,
+      next-leg-reads.Learnt,
+      round-block-below t,
+      round-block.Post,
+      advance-reads.Asked,
+      advance-reads.Learnt,
+    )
     (straight-at t)
     straight.Post
     straight-Inv-loop
     straight-μ-loop
     (straight-loop-holds t)
     (straight-is-there-requires t)
-    (straight-in-row-requires t)
-    (straight-advance-requires t)
-    (straight-add-made t)
-    (straight-sub-left t)
-    (straight-is-in-row-requires t)
+    (straight-next-leg-requires t)
     (straight-round-block-requires t)
     (straight-same-length t)
     (straight-returns t)
+    (straight-advance-requires t)
+    (straight-add-made t)
+    (straight-sub-left t)
     (straight-loop-less t)
     (straight-loop-again t)
     (straight-same-length-2 t)

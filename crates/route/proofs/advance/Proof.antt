@@ -1,4 +1,4 @@
--- The letter and the packet. Assumes nothing.
+-- The letters and the packet. Assumes nothing.
 use borrow.Author.Needs.{needs}
 use Rattle.route.proofs.advance.Statement.{statement}
 use Rattle.route.proofs.advance.Tie as tie
@@ -6,17 +6,18 @@ use Rattle.route.proofs.advance.Tie as tie
 letter-requires : tie.Need-letter-requires
 letter-requires c κs = search needs
 
-set-requires : tie.Need-set-requires
-set-requires c κs = search needs
+fill-requires : tie.Need-fill-requires
+fill-requires c κs = search needs
 
-moved-requires : tie.Need-moved-requires
-moved-requires c κs = search needs
+moved-by-requires : tie.Need-moved-by-requires
+moved-by-requires c κs = search needs
 
 same-length : tie.Need-same-length
 same-length c = search needs
 
 returns : tie.Need-returns
-returns c = (c .moved .ensures, rw (← c .before .before .before .before .letter .ensures) (c .before .before .before .set .ensures))
+returns c = (c .moved-by .ensures, rw (← c .before .before .before .before .letter .ensures) (c .before .before .before .fill .ensures))
 
 pub advance-spec : {M : Type 1} → statement M
-advance-spec = tie.close (tie.spec letter-requires set-requires moved-requires same-length returns)
+advance-spec =
+    tie.close (tie.spec letter-requires fill-requires moved-by-requires same-length returns)

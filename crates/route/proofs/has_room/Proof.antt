@@ -8,19 +8,19 @@ use Rattle.route.proofs.has_room.Tie as tie
 returns : tie.Need-returns
 returns c = room-enough _ (c .before .before .pre) (c .if1 .taken)
 
-slice-aggregate-round-block : tie.Need-slice-aggregate-round-block
-slice-aggregate-round-block c = search needs
+slice-aggregate-straight : tie.Need-slice-aggregate-straight
+slice-aggregate-straight c = search needs
 
-round-block-requires : tie.Need-round-block-requires
-round-block-requires c κs = search needs
+straight-requires : tie.Need-straight-requires
+straight-requires c κs = search needs
 
 cast-result : tie.Need-cast-result
 cast-result c = search needs
 
 returns-2 : tie.Need-returns-2
-returns-2 c = rw (c .before .round-block .ensures .counts, zero-add)
+returns-2 c = rw (c .before .straight .ensures .counts, zero-add)
 
 pub has-room-spec : {M : Type 1} → statement M
 has-room-spec =
     tie.close
-    (tie.spec returns slice-aggregate-round-block round-block-requires cast-result returns-2)
+    (tie.spec returns slice-aggregate-straight straight-requires cast-result returns-2)

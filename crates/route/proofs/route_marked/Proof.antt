@@ -25,14 +25,14 @@ has-room-requires c κs = starts _ _ _ _ _ (c .before .before .before .before .b
 returns-2 : tie.Need-returns-2
 returns-2 c = let clear = request-none _ _ _ (c .before .before .enum-told .given .1) (c .before .before .before .before .check-request .ensures) in room-refused _ _ _ _ clear (rest-hops _ _ _ _ _ (c .before .before .before .before .before .before .before .pre .0) (c .before .before .before .before .before .before .before .pre .1) (request _ _ _ clear)) (sym (c .before .has-room .ensures) ∙ not-true _ (c .if1 .taken))
 
-round-block-requires : tie.Need-round-block-requires
-round-block-requires c κs = starts _ _ _ _ _ (c .before .before .before .before .before .before .before .before .pre .0) (c .before .before .before .before .before .before .before .before .pre .1) (request _ _ _ (request-none _ _ _ (c .before .before .before .enum-told .given .1) (c .before .before .before .before .before .check-request .ensures)))
+straight-requires : tie.Need-straight-requires
+straight-requires c κs = starts _ _ _ _ _ (c .before .before .before .before .before .before .before .before .pre .0) (c .before .before .before .before .before .before .before .before .pre .1) (request _ _ _ (request-none _ _ _ (c .before .before .before .enum-told .given .1) (c .before .before .before .before .before .check-request .ensures)))
 
 same-length : tie.Need-same-length
 same-length c = search needs
 
 returns-3 : tie.Need-returns-3
-returns-3 c = let clear = request-none _ _ _ (c .before .before .before .before .before .before .enum-told .given .1) (c .before .before .before .before .before .before .before .before .check-request .ensures) in routed _ _ _ _ clear (rest-hops _ _ _ _ _ (c .before .before .before .before .before .before .before .before .before .before .before .pre .0) (c .before .before .before .before .before .before .before .before .before .before .before .pre .1) (request _ _ _ clear)) (sym (c .before .before .before .before .before .has-room .ensures) ∙ not-false _ (c .before .before .before .before .if1 .left)) (c .before .before .round-block .ensures .counts) (c .before .before .round-block .ensures .writes)
+returns-3 c = let clear = request-none _ _ _ (c .before .before .before .before .before .before .enum-told .given .1) (c .before .before .before .before .before .before .before .before .check-request .ensures) in routed _ _ _ _ clear (rest-hops _ _ _ _ _ (c .before .before .before .before .before .before .before .before .before .before .before .pre .0) (c .before .before .before .before .before .before .before .before .before .before .before .pre .1) (request _ _ _ clear)) (sym (c .before .before .before .before .before .has-room .ensures) ∙ not-false _ (c .before .before .before .before .if1 .left)) (c .before .before .straight .ensures .counts) (c .before .before .straight .ensures .writes)
 
 pub route-marked-spec : {M : Type 1} → statement M
 route-marked-spec =
@@ -44,6 +44,6 @@ route-marked-spec =
     enum-told
     has-room-requires
     returns-2
-    round-block-requires
+    straight-requires
     same-length
     returns-3)

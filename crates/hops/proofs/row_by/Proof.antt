@@ -1,54 +1,54 @@
 -- By the heading. Assumes nothing.
 use borrow.Author.Needs.{needs}
-use Rattle.mesh.specs.Mesh.{rowAfter}
-use Rattle.hops.proofs.row_after.Statement.{statement}
-use Rattle.hops.proofs.row_after.Tie as tie
+use Rattle.hops.specs.Moved.{rowBy}
+use Rattle.hops.proofs.row_by.Statement.{statement}
+use Rattle.hops.proofs.row_by.Tie as tie
 
 enum-told : tie.Need-enum-told
 enum-told c = search needs
 
 returns : tie.Need-returns
-unfolding rowAfter
+unfolding rowBy
 returns c = rw (c .enum-told .given .1)
 
 enum-told-2 : tie.Need-enum-told-2
 enum-told-2 c = search needs
 
-add-t3 : tie.Need-add-t3
-add-t3 c = search needs
+add-t4 : tie.Need-add-t4
+add-t4 c = search needs
 
 returns-2 : tie.Need-returns-2
-unfolding rowAfter
+unfolding rowBy
 returns-2 c = rw (c .before .enum-told2 .given .1)
 
 enum-told-3 : tie.Need-enum-told-3
 enum-told-3 c = search needs
 
-sub-t4 : tie.Need-sub-t4
-sub-t4 c = c .before .before .before .pre .1 (c .before .enum-told3 .given .1)
+sub-t5 : tie.Need-sub-t5
+sub-t5 c = c .before .before .before .pre .2 (c .before .enum-told3 .given .1)
 
 returns-3 : tie.Need-returns-3
-unfolding rowAfter
+unfolding rowBy
 returns-3 c = rw (c .before .enum-told3 .given .1)
 
 enum-told-4 : tie.Need-enum-told-4
 enum-told-4 c = search needs
 
 returns-4 : tie.Need-returns-4
-unfolding rowAfter
+unfolding rowBy
 returns-4 c = rw (c .enum-told4 .given .1)
 
-pub row-after-spec : {M : Type 1} → statement M
-row-after-spec =
+pub row-by-spec : {M : Type 1} → statement M
+row-by-spec =
     tie.close
     (tie.spec
     enum-told
     returns
     enum-told-2
-    add-t3
+    add-t4
     returns-2
     enum-told-3
-    sub-t4
+    sub-t5
     returns-3
     enum-told-4
     returns-4)

@@ -1,0 +1,12 @@
+-- As it is defined. Assumes nothing.
+use mathlib.Core.Path.{refl}
+use Rattle.travel.specs.Straight.{inItsRow}
+use Rattle.travel.proofs.is_in_row.Statement.{statement}
+use Rattle.travel.proofs.is_in_row.Tie as tie
+
+returns : tie.Need-returns
+unfolding inItsRow
+returns c = refl
+
+pub is-in-row-spec : {M : Type 1} → statement M
+is-in-row-spec = tie.close (tie.spec returns)

@@ -1,0 +1,21 @@
+-- The way to the row, and the last hop. Assumes nothing.
+use borrow.Author.Needs.{needs}
+use mathlib.Core.List.{[]}
+use Rattle.mesh.specs.Mesh.{mesh}
+use Rattle.mesh.specs.Hops.{toward}
+use Rattle.travel.specs.Straight.{nearsRow}
+use Rattle.travel.proofs.is_nearing.Statement.{statement}
+use Rattle.travel.proofs.is_nearing.Tie as tie
+
+toward-requires : tie.Need-toward-requires
+toward-requires c κs = search needs
+
+is-last-requires : tie.Need-is-last-requires
+is-last-requires c κs = search needs
+
+returns : tie.Need-returns
+unfolding nearsRow toward
+returns c = rw (← c .before .toward .ensures (mesh 0 0 []) 0) (c .is-last .ensures)
+
+pub is-nearing-spec : {M : Type 1} → statement M
+is-nearing-spec = tie.close (tie.spec toward-requires is-last-requires returns)
