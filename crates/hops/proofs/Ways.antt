@@ -4,7 +4,7 @@ use mathlib.Core.Bool.{Bool, true, false, and-false}
 use Prim.Native.Nat.{ℕ, suc, _+_, _≤_, _<_}
 use native.Mathlib.Omega.{arith}
 use native.Mathlib.Decide.{decLt}
-use borrow.Author.Tests.{eq-eqb}
+use borrow.Author.Tests.{eq-eqb, le-leb}
 use Rattle.mesh.specs.declared.Heading.{Heading}
 use Rattle.mesh.specs.declared.Heading.the-variants.{East as E, North as N, South as S, West as W}
 use Rattle.mesh.specs.declared.Packet.{Packet}
@@ -60,6 +60,14 @@ ahead-free B E i r c e = e
 ahead-free B N i r c e = e
 ahead-free B S i r c e = rw (e, and-false)
 ahead-free B W i r c e = rw (e, and-false)
+
+-- the node i hops that way, on the mesh, is bad
+pub ahead-bad : (B : ℕ → ℕ → Bool) (h : Heading) {i r c : ℕ} → (h ≡ S → i ≤ r) → (h ≡ W → i ≤ c) → B (rowBy h i r) (columnBy h i c) ≡ true → ahead B h i r c ≡ true
+unfolding ahead rowBy columnBy
+ahead-bad B E s w e = e
+ahead-bad B N s w e = e
+ahead-bad B S {i} {r} s w e = rw (le-leb i r (s refl), e)
+ahead-bad B W {i} {r} {c} s w e = rw (le-leb i c (w refl), e)
 
 -- and k hops on
 pub row-add : (h : Heading) (i k r : ℕ) → rowBy h k (rowBy h i r) ≡ rowBy h (i + k) r

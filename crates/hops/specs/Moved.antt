@@ -30,7 +30,7 @@ movedBy h n p =
 pub record Lands (h : Heading) (n r c : ℕ) : Type 0 where
   pub row : r < 64
   pub column : c < 64
-  pub hops : n < 64
+  pub hops : n < 65536
   pub south : h ≡ S → n ≤ r
   pub west : h ≡ W → n ≤ c
 

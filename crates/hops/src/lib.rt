@@ -36,7 +36,7 @@ fn stays(columns: u32, rows: u32, r: Row, c: Column, h: Heading) -> bool
 
 // The row after n hops that way.
 fn row_by(r: Row, h: Heading, n: u32) -> Row
-    requires { ⌜ (r .0 < 64) × (n < 64) × (h ≡ South → n ≤ r .0) ⌝ }
+    requires { ⌜ (r .0 < 64) × (n < 65536) × (h ≡ South → n ≤ r .0) ⌝ }
     ensures { λ x. ⌜ x .0 ≡ rowBy h n (r .0) ⌝ }
 {
     match h {
@@ -49,7 +49,7 @@ fn row_by(r: Row, h: Heading, n: u32) -> Row
 
 // The column after n hops that way.
 fn column_by(c: Column, h: Heading, n: u32) -> Column
-    requires { ⌜ (c .0 < 64) × (n < 64) × (h ≡ West → n ≤ c .0) ⌝ }
+    requires { ⌜ (c .0 < 64) × (n < 65536) × (h ≡ West → n ≤ c .0) ⌝ }
     ensures { λ x. ⌜ x .0 ≡ columnBy h n (c .0) ⌝ }
 {
     match h {

@@ -8,19 +8,20 @@ use native.Mathlib.Omega.{arith}
 use lib.ListN.{length, set, replicate}
 use Rattle.mesh.specs.declared.Heading.{Heading}
 use Rattle.mesh.specs.declared.Packet.{Packet}
-use Rattle.mesh.specs.Mesh.{Mesh, mesh, letter, letters}
-use Rattle.mesh.specs.Hops.{Trip, atDestination}
+use Rattle.mesh.specs.Mesh.{Mesh, mesh, rowAfter, columnAfter, letter, letters}
+use Rattle.mesh.specs.Hops.{Trip, atDestination, otherRow, hop}
 use Rattle.mesh.specs.Walk.{At, stays, lawful, moved, arrived, lawfulRoute, hopAt, walk}
 use Rattle.mesh.specs.Packets.{at, tripOf, isThere, movedPacket}
 use Rattle.mesh.specs.Moving.{hopFrom}
 use Rattle.mesh.proofs.Bools.{and-both, or-none}
-use Rattle.hops.specs.Moved.{movedBy}
+use Rattle.hops.specs.Moved.{movedBy, Lands}
 use Rattle.hops.proofs.Landing.{stays-lands, stays-on}
 use Rattle.buffers.specs.Over.{over}
 use Rattle.buffers.proofs.Over.{over-length}
 use Rattle.maps.specs.Sized.{Sized}
-use Rattle.travel.specs.Straight.{inItsRow, nearsRow, after, Runs}
-use Rattle.travel.proofs.Runs.{after-moved}
+use Rattle.rules.specs.Rows.{inItsRow, nearsRow}
+use Rattle.travel.specs.Straight.{after, Runs}
+use Rattle.travel.proofs.Runs.{after-moved, runs-one}
 use Rattle.route.specs.Following.{hopLimit, Leads, Going, Follows}
 
 -- the first hop of a walk that leads to the destination
@@ -40,11 +41,6 @@ leads-hop m n w p e l away =
 there-arrived : (w : Mesh) (p : Packet) → isThere p ≡ arrived (tripOf w p) (at p)
 unfolding isThere arrived atDestination
 there-arrived w p = refl
-
--- where the packet cannot travel straight it is not at its destination
-pub away-round : (p : Packet) {x : Bool} → x ≡ inItsRow p || nearsRow p → x ≡ false → isThere p ≡ false
-unfolding isThere inItsRow
-away-round p e f = rw (or-none (inItsRow p) (nearsRow p) (sym e ∙ f) .0)
 
 pub follows-there : (w : Mesh) (p : Packet) (out : List ℕ) (made left : ℕ) → isThere p ≡ true → Follows w p out made left made out
 unfolding walk letters over
@@ -73,16 +69,10 @@ module _ {columns rows : ℕ} {marks : List ℕ} {p : Packet} {made left : ℕ} 
     first-stays = and-both (first .lawfully) .0
 
     module _ {h : Heading} (is-h : h ≡ hopFrom (mesh columns rows marks) p) where
-      -- one hop is a leg too
-      runs-one : Runs (mesh columns rows marks) h 1 p
-      unfolding after
-      runs-one =
+      lands-one : Lands h 1 (p .place .row .0) (p .place .column .0)
+      lands-one =
           let m = g .on-mesh in
-          record {
-            away = λ i less. let e : i ≡ 0 = omega arith in rw e away;
-            hops = λ i less. let e : i ≡ 0 = omega arith in rw e is-h;
-            lands = rw is-h (stays-lands columns rows _ _ (m .row) (m .column) _ (m .sized .few-columns) (m .sized .few-rows) first-stays);
-          }
+          rw is-h (stays-lands columns rows _ _ (m .row) (m .column) _ (m .sized .few-columns) (m .sized .few-rows) first-stays)
 
       going-on : Going columns rows marks (movedPacket h p) (made + 1) (left - 1)
       unfolding hopFrom moved
@@ -102,17 +92,34 @@ module _ {columns rows : ℕ} {marks : List ℕ} {p : Packet} {made left : ℕ} 
           let f′ = rw is-h at f in
           record { counts = rw (first .walks) (omega (arith, f′ .counts)); writes = rw (first .walks) (f′ .writes) }
 
+lands-none : {h : Heading} {r c : ℕ} → r < 64 → c < 64 → Lands h 0 r c
+lands-none row column =
+    record { row = row; column = column; hops = omega arith; south = λ e. omega arith; west = λ e. omega arith }
+
 -- n hops that way by the rules
 record Ran (columns rows : ℕ) (marks : List ℕ) (h : Heading) (n : ℕ) (p : Packet) (made left : ℕ) : Type 0 where
   pub going : Going columns rows marks (after n h p) (made + n) (left - n)
   pub onward : {out : List ℕ} {x : ℕ} {end : List ℕ} → Follows (mesh columns rows marks) (after n h p) (over out made (replicate n (letter h))) (made + n) (left - n) x end → Follows (mesh columns rows marks) p out made left x end
   pub enough : n < left
+  pub lands : Lands h n (p .place .row .0) (p .place .column .0)
+
+-- after a hop that lands n hops more do
+lands-more : (h : Heading) {n r c : ℕ} → Lands h 1 r c → Lands h n (rowAfter h r) (columnAfter h c) → suc n < 65536 → Lands h (suc n) r c
+unfolding rowAfter columnAfter
+lands-more h one more few =
+    record {
+      row = one .row;
+      column = one .column;
+      hops = few;
+      south = λ e. omega (arith, one .south e, rw e at (more .south e));
+      west = λ e. omega (arith, one .west e, rw e at (more .west e));
+    }
 
 ran : {columns rows : ℕ} {marks : List ℕ} {h : Heading} (n : ℕ) {p : Packet} {made left : ℕ} → Going columns rows marks p made left →
     ((i : ℕ) → i < n → isThere (after i h p) ≡ false) → ((i : ℕ) → i < n → h ≡ hopFrom (mesh columns rows marks) (after i h p)) → Ran columns rows marks h n p made left
-unfolding after over
+unfolding after over moved
 ran zero {p} {made} {left} g away hops =
-    record { going = rw (add-zero, sub-zero) g; onward = λ f. rw (add-zero, sub-zero) at f; enough = going-left g }
+    record { going = rw (add-zero, sub-zero) g; onward = λ f. rw (add-zero, sub-zero) at f; enough = going-left g; lands = lands-none (going-on-mesh g .1) (going-on-mesh g .2) }
 ran {columns} {rows} {marks} {h} (suc n) {p} {made} {left} g away hops =
     let next = ran n (going-on g (away 0 (omega arith)) (hops 0 (omega arith))) (λ i less. away (suc i) (omega arith)) (λ i less. hops (suc i) (omega arith)) in
     let m : made + 1 + n ≡ made + suc n = omega arith in
@@ -121,11 +128,19 @@ ran {columns} {rows} {marks} {h} (suc n) {p} {made} {left} g away hops =
       going = rw (← m, ← l) (next .going);
       onward = λ f. follows-on g (away 0 (omega arith)) (hops 0 (omega arith)) (next .onward (rw (← m, ← l) at f));
       enough = omega (arith, next .enough);
+      lands = lands-more h (lands-one g (away 0 (omega arith)) (hops 0 (omega arith))) (next .lands) (omega (arith, next .enough, g .few));
     }
 
 after-some : (n : ℕ) (h : Heading) (p : Packet) → 1 ≤ n → movedBy h n p ≡ after n h p
 after-some zero h p some = absurd (omega arith)
 after-some (suc n) h p some = sym (after-moved n h p)
+
+-- a hop round a block is a leg of one
+pub round-one : {w : Mesh} {p : Packet} {h : Heading} → inItsRow p || nearsRow p ≡ false → h ≡ otherRow (tripOf w p) (p .place .row .0) (p .place .column .0) (p .last) → Runs w h 1 p
+unfolding inItsRow isThere hopFrom hopAt hop
+round-one {w} {p} {h} off is-h =
+    let row = or-none (inItsRow p) (nearsRow p) off .0 in
+    runs-one w h p (rw row) (rw row is-h)
 
 -- from p₀ with begun hops made the packet has come to p with made of them
 pub record Along (columns rows : ℕ) (marks : List ℕ) (p₀ : Packet) (out₀ : List ℕ) (begun limit : ℕ) (p : Packet) (out : List ℕ) (made left : ℕ) : Type 0 where
@@ -138,13 +153,12 @@ pub along-none : {columns rows : ℕ} {marks : List ℕ} {p : Packet} {out : Lis
 along-none g = record { going = g; onward = λ f. f; fell = omega arith; size = refl }
 
 module _ {columns rows : ℕ} {marks : List ℕ} {p₀ : Packet} {out₀ : List ℕ} {begun limit : ℕ} {p : Packet} {out : List ℕ} {made left : ℕ} (a : Along columns rows marks p₀ out₀ begun limit p out made left) where
-  pub along-one : {h : Heading} → isThere p ≡ false → h ≡ hopAt (tripOf (mesh columns rows marks) p) (at p) → Runs (mesh columns rows marks) h 1 p
-  unfolding hopFrom
-  along-one away is-h = runs-one (a .going) away is-h
-
   module _ {h : Heading} {n : ℕ} (r : Runs (mesh columns rows marks) h n p) where
     pub along-few : (n < left) × (made + left ≤ hopLimit)
     along-few = (ran n (a .going) (r .away) (r .hops) .enough, a .going .few)
+
+    pub along-lands : Lands h n (p .place .row .0) (p .place .column .0)
+    along-lands = ran n (a .going) (r .away) (r .hops) .lands
 
     pub along-leg : {q : Packet} {out′ : List ℕ} → 1 ≤ n → (q ≡ movedBy h n p) × (out′ ≡ over out made (replicate n (letter h))) → Along columns rows marks p₀ out₀ begun limit q out′ (made + n) (left - n)
     along-leg {q} {out′} some is-on =

@@ -2,25 +2,23 @@
 // destination's row (rule 2, not stopped) and in a column toward it (rule 5, the next node free). Where there is no such leg, at a stop,
 // before a block or with a turn yet to make, the packet goes round, hop by hop, until a hop leads into the destination's row or toward it.
 ghost use mathlib.Core.Path.{_≡_};
-ghost use mathlib.Core.Bool.{false};
+ghost use mathlib.Core.Bool.{false, _||_};
 ghost use lib.Dec.{leb};
 ghost use lib.ListN.{length, replicate};
 ghost use Rattle.mesh.specs.Mesh.{mesh, letter};
 ghost use Rattle.mesh.specs.Blocks.{bad, blocks};
-ghost use Rattle.mesh.specs.Packets.{isThere};
 ghost use Rattle.mesh.specs.Refusals.{checkedNumber, requestRefusals};
 ghost use Rattle.mesh.specs.Operations.{Routes};
 ghost use Rattle.block_theory.specs.Obstacles.{Obstacles};
 ghost use Rattle.maps.specs.Sized.{Sized};
 ghost use Rattle.hops.specs.Moved.{movedBy, Lands};
+ghost use Rattle.rules.specs.Rows.{inItsRow, nearsRow};
 ghost use Rattle.buffers.specs.Over.{over};
 ghost use Rattle.route.specs.Following.{hopLimit, rest, Going, Follows};
 ghost use Rattle.route.specs.Marked.{RoutesOn};
 use buffers::fill;
 use hops::is_there;
 use hops::moved_by;
-use travel::is_straight;
-use travel::next_leg;
 use marking::mark_map;
 use mesh::Checked;
 use mesh::Heading;
@@ -31,8 +29,10 @@ use mesh::Refusal;
 use mesh::Routed;
 use places::check_places;
 use places::is_on_ring;
-use rules::hop;
+use rules::go_round;
 use rules::is_unserved;
+use travel::is_straight;
+use travel::next_leg;
 use turns::letter;
 
 // The packet after n hops that way, whose letters are written from index made on, as far as there is room for them.
@@ -44,7 +44,8 @@ fn advance(p: Packet, h: Heading, n: u32, out: &mut [u8], made: u32) -> Packet
     moved_by(p, h, n)
 }
 
-// Straight travel, leg by leg. Where no leg leads on the packet goes round.
+// Straight travel, leg by leg: along the destination's row by rule 2, in a column toward it by rule 5. Where either rule leads off that way
+// the packet goes round.
 fn straight(
     columns: u32,
     rows: u32,
@@ -61,12 +62,12 @@ fn straight(
     let mut made = begun;
     let mut left = limit;
     while !is_there(p) {
-        let on = next_leg(columns, rows, marks, p);
-        let h = on.heading;
-        let n = on.hops;
-        if n == 0 {
+        if !is_straight(p) {
             return round_block(columns, rows, marks, p, out, made, left);
         }
+        let leg = next_leg(columns, rows, marks, p);
+        let h = leg.heading;
+        let n = leg.hops;
         p = advance(p, h, n, out, made);
         made += n;
         left -= n;
@@ -74,7 +75,8 @@ fn straight(
     made
 }
 
-// Travel round a block, hop by hop: away from the destination's row, to the side and to the first hop back. Then straight on.
+// Travel round a block, hop by hop: away from the destination's row by rule 3, to the side by rules 4 and 6, until a hop leads toward that
+// row or into it. Then straight on.
 fn round_block(
     columns: u32,
     rows: u32,
@@ -84,14 +86,14 @@ fn round_block(
     begun: u32,
     limit: u32,
 ) -> u32
-    requires { ⌜ Going columns rows (now marks) packet begun limit × (isThere packet ≡ false) ⌝ }
+    requires { ⌜ Going columns rows (now marks) packet begun limit × (inItsRow packet || nearsRow packet ≡ false) ⌝ }
     ensures { λ x. ⌜ Follows (mesh columns rows (now (marks .entry))) packet (now (out .entry)) begun limit x (now (out .exit)) ⌝ }
 {
     let mut p = packet;
     let mut made = begun;
     let mut left = limit;
     loop {
-        let h = hop(columns, rows, marks, p);
+        let h = go_round(columns, rows, marks, p);
         p = advance(p, h, 1, out, made);
         made += 1;
         left -= 1;

@@ -1,5 +1,5 @@
 -- The rules as the code goes through them, case by case: what the tests found, and what the rules then say. Assumes nothing.
-use mathlib.Core.Path.{_≡_, refl}
+use mathlib.Core.Path.{_≡_, refl, sym, ap, _∙_}
 use mathlib.Core.Logic.{inl, inr}
 use mathlib.Core.Bool.{Bool, true, false, not, cond, _||_}
 use Prim.Native.Nat.{ℕ}
@@ -8,12 +8,13 @@ use lib.Dec.{ltb}
 use Rattle.mesh.specs.declared.Heading.{Heading}
 use Rattle.mesh.specs.declared.Heading.the-variants.{East as E, North as N, South as S, West as W}
 use Rattle.mesh.specs.declared.Last.{Last}
-use Rattle.mesh.specs.declared.Last.the-variants.{Made as made}
+use Rattle.mesh.specs.declared.Last.the-variants.{None as none, Made as made}
 use Rattle.mesh.specs.Mesh.{letter, same}
 use Rattle.mesh.specs.Blocks.{ahead}
 use Rattle.mesh.specs.Hops.{Trip, blocked, side, toward, own, stopped, again, leaving, across, nearing, otherRow}
 use Rattle.mesh.specs.Walk.{shutIn}
 use Rattle.mesh.proofs.Bools.{true-false, value}
+use Rattle.rules.specs.Rows.{lastIs}
 
 -- at a stop
 pub again-south : {l : Last} (h : Heading) {x : Bool} → l ≡ made h → x ≡ same h S → x ≡ true → S ≡ again l
@@ -29,6 +30,39 @@ again-north E e q f = rw e
 again-north N e q f = rw e
 again-north S e q f = true-false q f
 again-north W e q f = rw e
+
+-- headings that are the same hop
+same-is : (g h : Heading) → same g h ≡ true → g ≡ h
+unfolding same letter
+same-is E E e = refl
+same-is E N e = true-false e refl
+same-is E S e = true-false e refl
+same-is E W e = true-false e refl
+same-is N E e = true-false e refl
+same-is N N e = refl
+same-is N S e = true-false e refl
+same-is N W e = true-false e refl
+same-is S E e = true-false e refl
+same-is S N e = true-false e refl
+same-is S S e = refl
+same-is S W e = true-false e refl
+same-is W E e = true-false e refl
+same-is W N e = true-false e refl
+same-is W S e = true-false e refl
+same-is W W e = refl
+
+same-self : (h : Heading) → same h h ≡ true
+unfolding same
+same-self h = eq-eqb (letter h) (letter h) refl
+
+pub last-self : (h : Heading) → lastIs (made h) h ≡ true
+unfolding lastIs
+last-self h = same-self h
+
+pub last-made : (l : Last) (h : Heading) → lastIs l h ≡ true → l ≡ made h
+unfolding lastIs
+last-made none h e = true-false e refl
+last-made (made g) h e = ap made (same-is g h e)
 
 module _ (w : Trip) (r c : ℕ) where
   -- stopped
@@ -88,20 +122,34 @@ module _ (w : Trip) (r c : ℕ) where
   toward-or-away S v = elim (value (ltb r (w .R))) [ inl e ↦ rw e | inr e ↦ rw e ]
   toward-or-away W v = true-false v refl
 
-  module _ (h : Heading) (v : same h N || same h S ≡ true) {t : Heading} (et : t ≡ toward w r) {x : Bool} (ex : x ≡ same h t) {g : Heading} where
-    pub along-nearing : x ≡ true → g ≡ nearing w r c h → g ≡ otherRow w r c (made h)
-    along-nearing y q = rw (toward-or-away h v, ← et, ← ex, y) q
-
-    pub along-leaving : x ≡ false → g ≡ leaving w r c h → g ≡ otherRow w r c (made h)
-    along-leaving f q = rw (toward-or-away h v, ← et, ← ex, f) q
+  toward-upright : same (toward w r) N || same (toward w r) S ≡ true
+  unfolding toward same letter
+  toward-upright = elim (value (ltb r (w .R))) [ inl e ↦ rw e | inr e ↦ rw e ]
 
   -- rules 4 and 6
-  pub after-level : (h : Heading) → same h N || same h S ≡ false → otherRow w r c (made h) ≡ across w r c h
+  after-level : (h : Heading) → same h N || same h S ≡ false → otherRow w r c (made h) ≡ across w r c h
   unfolding otherRow same letter
   after-level E f = refl
   after-level N f = true-false refl f
   after-level S f = true-false refl f
   after-level W f = refl
+
+  -- rules 3, 4 and 6, by the last hop, which does not lead toward R
+  module _ (h : Heading) {l : Last} (el : l ≡ made h) {x : Bool} (ex : x ≡ same h N || same h S) {g : Heading} where
+    pub round-leaving : x ≡ true → lastIs l (toward w r) ≡ false → g ≡ leaving w r c h → g ≡ otherRow w r c l
+    unfolding lastIs
+    round-leaving v f q =
+        let f′ : same h (toward w r) ≡ false = rw el at f in
+        rw (el, toward-or-away h (sym ex ∙ v), f′) q
+
+    pub round-across : x ≡ false → g ≡ across w r c h → g ≡ otherRow w r c l
+    round-across v q = rw (el, after-level h (sym ex ∙ v)) q
+
+  -- rule 5, by the last hop
+  pub near-again : (l : Last) {t g : Heading} → t ≡ toward w r → lastIs l (toward w r) ≡ true → g ≡ nearing w r c t → g ≡ otherRow w r c l
+  near-again l et n q =
+      let t = toward w r in
+      rw (last-made l t n, toward-or-away t toward-upright, same-self t) (rw et at q)
 
   -- refusal 9
   module _ {x : Bool} (ex : x ≡ own w E c) where

@@ -1,15 +1,15 @@
 // The hop rules, and the condition that refusal 9 comes to.
 ghost use mathlib.Core.Path.{_≡_};
-ghost use mathlib.Core.Bool.{true, _||_};
+ghost use mathlib.Core.Bool.{false};
 ghost use Prim.Native.Nat.{ℕ, _<_};
-ghost use Rattle.mesh.specs.declared.Heading.the-variants.{North, South};
 ghost use Rattle.mesh.specs.declared.Last.the-variants.{Made};
-ghost use Rattle.mesh.specs.Mesh.{Mesh, mesh, same};
+ghost use Rattle.mesh.specs.Mesh.{Mesh, mesh};
 ghost use Rattle.mesh.specs.Hops.{side, toward, own, stopped, again, inRow, leaving, across, nearing, otherRow};
 ghost use Rattle.mesh.specs.Walk.{tripOn, hopAt};
 ghost use Rattle.mesh.specs.Packets.{at, tripOf};
 ghost use Rattle.mesh.specs.Refusals.{unserved};
 ghost use Rattle.maps.specs.Sized.{Sized};
+ghost use Rattle.rules.specs.Rows.{lastIs, inItsRow, nearsRow};
 use maps::is_bad_ahead;
 use mesh::Column;
 use mesh::Heading;
@@ -71,7 +71,7 @@ pub fn is_stopped(columns: u32, rows: u32, marks: &[u8], p: Packet) -> bool
 }
 
 // The hop at a stop in the destination's row: the last one again if it was N or S, else N.
-fn again(l: Last) -> Heading
+pub fn again(l: Last) -> Heading
     ensures { λ x. ⌜ x ≡ again l ⌝ }
 {
     match l {
@@ -133,31 +133,45 @@ fn nearing(columns: u32, rows: u32, marks: &[u8], p: Packet, h: Heading) -> Head
     h
 }
 
-// Rules 3 and 5, after hop h, which is N or S.
-fn along(columns: u32, rows: u32, marks: &[u8], p: Packet, h: Heading) -> Heading
-    requires { ⌜ Sized columns rows (now marks) × (p .place .row .0 < 64) × (p .place .column .0 < 64) × (same h North || same h South ≡ true) ⌝ }
-    ensures { λ x. ⌜ x ≡ otherRow (tripOf (mesh columns rows (now (marks .entry))) p) (p .place .row .0) (p .place .column .0) (Made h) ⌝ }
+// Whether the packet is in its destination's row.
+pub fn is_in_row(p: Packet) -> bool
+    ensures { λ x. ⌜ x ≡ inItsRow p ⌝ }
 {
-    if is_same(h, toward(p.place.row, p.destination.row)) {
-        return nearing(columns, rows, marks, p, h);
-    }
-    leaving(columns, rows, marks, p, h)
+    p.place.row.0 == p.destination.row.0
 }
 
-// Rules 3 to 6, after hop h.
+// Whether the last hop was that way.
+fn is_last(l: Last, h: Heading) -> bool
+    ensures { λ x. ⌜ x ≡ lastIs l h ⌝ }
+{
+    match l {
+        Last::None => return false,
+        Last::Made(g) => return is_same(g, h),
+    }
+}
+
+// Whether the last hop leads toward the destination's row.
+pub fn is_nearing(p: Packet) -> bool
+    ensures { λ x. ⌜ x ≡ nearsRow p ⌝ }
+{
+    let l = p.last;
+    is_last(l, toward(p.place.row, p.destination.row))
+}
+
+// Rules 3, 4 and 6, after hop h, which does not lead toward the destination's row.
 fn after(columns: u32, rows: u32, marks: &[u8], p: Packet, h: Heading) -> Heading
-    requires { ⌜ Sized columns rows (now marks) × (p .place .row .0 < 64) × (p .place .column .0 < 64) ⌝ }
-    ensures { λ x. ⌜ x ≡ otherRow (tripOf (mesh columns rows (now (marks .entry))) p) (p .place .row .0) (p .place .column .0) (Made h) ⌝ }
+    requires { ⌜ Sized columns rows (now marks) × (p .place .row .0 < 64) × (p .place .column .0 < 64) × (p .last ≡ Made h) × (nearsRow p ≡ false) ⌝ }
+    ensures { λ x. ⌜ x ≡ otherRow (tripOf (mesh columns rows (now (marks .entry))) p) (p .place .row .0) (p .place .column .0) (p .last) ⌝ }
 {
     if is_vertical(h) {
-        return along(columns, rows, marks, p, h);
+        return leaving(columns, rows, marks, p, h);
     }
     across(columns, rows, marks, p, h)
 }
 
-// Rules 3 to 6, in another row than the destination's.
-fn other_row(columns: u32, rows: u32, marks: &[u8], p: Packet) -> Heading
-    requires { ⌜ Sized columns rows (now marks) × (p .place .row .0 < 64) × (p .place .column .0 < 64) ⌝ }
+// Rules 3, 4 and 6: the last hop does not lead toward the destination's row.
+pub fn go_round(columns: u32, rows: u32, marks: &[u8], p: Packet) -> Heading
+    requires { ⌜ Sized columns rows (now marks) × (p .place .row .0 < 64) × (p .place .column .0 < 64) × (nearsRow p ≡ false) ⌝ }
     ensures { λ x. ⌜ x ≡ otherRow (tripOf (mesh columns rows (now (marks .entry))) p) (p .place .row .0) (p .place .column .0) (p .last) ⌝ }
 {
     let l = p.last;
@@ -167,12 +181,23 @@ fn other_row(columns: u32, rows: u32, marks: &[u8], p: Packet) -> Heading
     }
 }
 
+// Rules 3 to 6, in another row than the destination's.
+fn other_row(columns: u32, rows: u32, marks: &[u8], p: Packet) -> Heading
+    requires { ⌜ Sized columns rows (now marks) × (p .place .row .0 < 64) × (p .place .column .0 < 64) ⌝ }
+    ensures { λ x. ⌜ x ≡ otherRow (tripOf (mesh columns rows (now (marks .entry))) p) (p .place .row .0) (p .place .column .0) (p .last) ⌝ }
+{
+    if is_nearing(p) {
+        return nearing(columns, rows, marks, p, toward(p.place.row, p.destination.row));
+    }
+    go_round(columns, rows, marks, p)
+}
+
 // The hop by the rules, where the packet is not yet at its destination.
 pub fn hop(columns: u32, rows: u32, marks: &[u8], p: Packet) -> Heading
     requires { ⌜ Sized columns rows (now marks) × (p .place .row .0 < 64) × (p .place .column .0 < 64) ⌝ }
     ensures { λ x. ⌜ x ≡ hopAt (tripOf (mesh columns rows (now (marks .entry))) p) (at p) ⌝ }
 {
-    if p.place.row.0 == p.destination.row.0 {
+    if is_in_row(p) {
         return in_row(columns, rows, marks, p);
     }
     other_row(columns, rows, marks, p)

@@ -1,27 +1,29 @@
 -- The hops of a leg: rule 2 where the packet is not stopped, rule 5 where the next node is free. Assumes nothing.
-use mathlib.Core.Path.{_≡_, refl, ap, _∙_}
-use mathlib.Core.Bool.{true, false, and-false}
+use mathlib.Core.Path.{_≡_, refl, sym, _∙_}
+use mathlib.Core.Bool.{Bool, true, false, and-false}
 use mathlib.Core.List.{List}
 use Prim.Native.Nat.{ℕ, zero, suc, _+_, _-_, _≤_, _<_}
 use native.Mathlib.Decide.{decLt}
 use native.Mathlib.Omega.{arith}
-use borrow.Author.Tests.{lt-ltb, le-ltb}
+use borrow.Author.Tests.{lt-ltb, le-ltb, eqb-false}
 use lib.Dec.{eqb}
 use Rattle.mesh.specs.declared.Heading.{Heading}
-use Rattle.mesh.specs.declared.Heading.the-variants.{East as E, North as N, South as S, West as W}
+use Rattle.mesh.specs.declared.Heading.the-variants.{North as N, South as S, West as W}
 use Rattle.mesh.specs.declared.Last.{Last}
-use Rattle.mesh.specs.declared.Last.the-variants.{None as none, Made as made}
+use Rattle.mesh.specs.declared.Last.the-variants.{Made as made}
 use Rattle.mesh.specs.declared.Packet.{Packet}
-use Rattle.mesh.specs.Mesh.{Mesh, mesh, letter, same}
+use Rattle.mesh.specs.Mesh.{Mesh, mesh}
 use Rattle.mesh.specs.Blocks.{bad}
-use Rattle.mesh.specs.Hops.{Trip, blocked, side, toward, stopped, inRow, nearing, otherRow, hop}
+use Rattle.mesh.specs.Hops.{Trip, blocked, side, toward, stopped, again, inRow, nearing, otherRow, hop}
 use Rattle.mesh.specs.Walk.{moved, hopAt, distance}
 use Rattle.mesh.specs.Packets.{tripOf, packetAt, isThere, movedPacket}
 use Rattle.mesh.specs.Moving.{hopFrom}
-use Rattle.mesh.proofs.Bools.{true-false}
+use Rattle.mesh.proofs.Bools.{and-right}
 use Rattle.hops.specs.Moved.{rowBy, columnBy, movedBy, Lands, Reaches, Free}
-use Rattle.hops.proofs.Ways.{row-none, column-none, row-next, column-next, row-add, column-add, ahead-free, reaches-lands, reaches-on}
-use Rattle.travel.specs.Straight.{lastIs, inItsRow, nearsRow, OnMesh, after, Runs}
+use Rattle.hops.proofs.Ways.{row-none, column-none, row-next, column-next, row-add, column-add, ahead-free, ahead-bad, reaches-lands, reaches-on}
+use Rattle.rules.specs.Rows.{lastIs, inItsRow, nearsRow}
+use Rattle.rules.proofs.Rules.{last-made, last-self, near-again}
+use Rattle.travel.specs.Straight.{OnMesh, after, Runs, Unstopped}
 use Rattle.travel.proofs.Ways.{side-stays, side-reaches, side-row, toward-stays, toward-reaches}
 
 lastBy : ℕ → Heading → Last → Last
@@ -46,12 +48,16 @@ unfolding movedBy lastBy
 after-moved i h p = after-is (suc i) h p
 
 -- no hops at all
-pub runs-none : (w : Mesh) (h : Heading) (p : Packet) → p .place .row .0 < 64 → p .place .column .0 < 64 → Runs w h 0 p
-runs-none w h p r c =
+runs-none : (w : Mesh) (h : Heading) (p : Packet) → Runs w h 0 p
+runs-none w h p = record { away = λ i less. absurd (omega arith); hops = λ i less. absurd (omega arith) }
+
+-- one hop
+pub runs-one : (w : Mesh) (h : Heading) (p : Packet) → isThere p ≡ false → h ≡ hopFrom w p → Runs w h 1 p
+unfolding after
+runs-one w h p away is-h =
     record {
-      away = λ i less. absurd (omega arith);
-      hops = λ i less. absurd (omega arith);
-      lands = record { row = r; column = c; hops = omega arith; south = λ e. omega arith; west = λ e. omega arith };
+      away = λ i less. let e : i ≡ 0 = omega arith in rw e away;
+      hops = λ i less. let e : i ≡ 0 = omega arith in rw e is-h;
     }
 
 -- rule 2, not stopped
@@ -84,30 +90,6 @@ hop-nearing t h r c is-h off free =
           rw (← s, off, e, free′)
     ]
 
-same-is : (g h : Heading) → same g h ≡ true → g ≡ h
-unfolding same letter
-same-is E E e = refl
-same-is E N e = true-false e refl
-same-is E S e = true-false e refl
-same-is E W e = true-false e refl
-same-is N E e = true-false e refl
-same-is N N e = refl
-same-is N S e = true-false e refl
-same-is N W e = true-false e refl
-same-is S E e = true-false e refl
-same-is S N e = true-false e refl
-same-is S S e = refl
-same-is S W e = true-false e refl
-same-is W E e = true-false e refl
-same-is W N e = true-false e refl
-same-is W S e = true-false e refl
-same-is W W e = refl
-
-last-made : (l : Last) (h : Heading) → lastIs l h ≡ true → l ≡ made h
-unfolding lastIs
-last-made none h e = true-false e refl
-last-made (made g) h e = ap made (same-is g h e)
-
 module _ {columns rows : ℕ} {marks : List ℕ} {p : Packet} (g : OnMesh columns rows marks p) where
   -- in the destination's row, n columns from it, of which x are free
   module _ (on : inItsRow p ≡ true) {n : ℕ} (is-n : n ≡ distance (p .place .column .0) (p .destination .column .0)) {s : Heading} (is-s : s ≡ side (tripOf (mesh columns rows marks) p) (p .place .column .0)) where
@@ -124,7 +106,6 @@ module _ {columns rows : ℕ} {marks : List ℕ} {p : Packet} (g : OnMesh column
         record {
           away = λ i less. rw (after-is i s p, stays i, way i (omega arith) .1) (and-false (eqb (p .place .row .0) (p .destination .row .0)));
           hops = λ i less. rw (after-is i s p) (hop-in-row (tripOf (mesh columns rows marks) p) _ _ _ (rw (stays i) on) (free i less) (way i (omega arith) .0));
-          lands = reaches-lands row-reaches most (g .sized .few-columns) (g .sized .few-rows);
         }
 
     module _ {x : ℕ} (f : Free (bad (mesh columns rows marks)) s n (p .place .row .0) (p .place .column .0) x) where
@@ -139,12 +120,35 @@ module _ {columns rows : ℕ} {marks : List ℕ} {p : Packet} (g : OnMesh column
           let on = reaches-on s row-reaches (x - 1) (omega (arith, f .most)) in
           (omega (arith, on .0, g .sized .few-rows), omega (arith, on .1, g .sized .few-columns))
 
-      pub row-stopped : Runs (mesh columns rows marks) s (x - 1) p
-      row-stopped = row-runs (omega (arith, f .most)) (λ i less. before i (omega arith))
+      -- the first node that way is bad
+      pub unstopped-none : isThere p ≡ false → x ≡ 0 → Unstopped (mesh columns rows marks) s 0 p
+      unfolding stopped blocked isThere inItsRow distance
+      unstopped-none away none =
+          let off = eqb-false (p .place .column .0) (p .destination .column .0) (and-right (eqb (p .place .row .0) (p .destination .row .0)) (eqb (p .place .column .0) (p .destination .column .0)) on away) in
+          let some : 0 < n = elim (decLt 0 n) [ yes h ↦ h | no h ↦ absurd (off (omega arith)) ] in
+          let next = rw none at (f .ends (omega arith)) in
+          let stop = ahead-bad (bad (mesh columns rows marks)) s (λ e. omega (arith, row-reaches .south e)) (λ e. omega (arith, row-reaches .west e)) next in
+          record { runs = runs-none (mesh columns rows marks) s p; stops = λ e. rw (← is-s, stop) }
 
-      pub row-free : stopped (tripOf (mesh columns rows marks) p) (rowBy s (x - 1) (p .place .row .0)) (columnBy s (x - 1) (p .place .column .0)) ≡ false → Runs (mesh columns rows marks) s x p
-      row-free last =
-          row-runs (f .most) (λ i less. elim (decLt (i + 1) x) [ yes h ↦ before i (omega arith) | no h ↦ (let e : i ≡ x - 1 = omega arith in rw e last) ])
+      module _ (some : 1 ≤ x) {y : Bool} (ey : y ≡ stopped (tripOf (mesh columns rows marks) p) (rowBy s (x - 1) (p .place .row .0)) (columnBy s (x - 1) (p .place .column .0))) where
+        pub unstopped-before : y ≡ true → Unstopped (mesh columns rows marks) s (x - 1) p
+        unstopped-before t =
+            record {
+              runs = row-runs (omega (arith, f .most)) (λ i less. before i (omega arith));
+              stops = λ e. rw (e, row-none s (p .place .row .0), column-none s (p .place .column .0)) at (sym ey ∙ t);
+            }
+
+        pub unstopped-all : y ≡ false → Unstopped (mesh columns rows marks) s x p
+        unstopped-all last =
+            record {
+              runs = row-runs (f .most) (λ i less. elim (decLt (i + 1) x) [ yes h ↦ before i (omega arith) | no h ↦ (let e : i ≡ x - 1 = omega arith in rw e (sym ey ∙ last)) ]);
+              stops = λ e. absurd (omega arith);
+            }
+
+  -- at a stop in the destination's row
+  pub leaves-row : inItsRow p ≡ true → isThere p ≡ false → {h : Heading} → h ≡ again (p .last) → stopped (tripOf (mesh columns rows marks) p) (p .place .row .0) (p .place .column .0) ≡ true → Runs (mesh columns rows marks) h 1 p
+  unfolding inItsRow hopFrom hopAt hop inRow
+  leaves-row on away is-h stop = runs-one (mesh columns rows marks) _ p away (rw (on, stop) is-h)
 
   -- in another row, n rows from the destination's, of which x are free
   module _ (nears : nearsRow p ≡ true) {n : ℕ} (is-n : n ≡ distance (p .place .row .0) (p .destination .row .0)) {h : Heading} (is-h : h ≡ toward (tripOf (mesh columns rows marks) p) (p .place .row .0)) where
@@ -167,5 +171,14 @@ module _ {columns rows : ℕ} {marks : List ℕ} {p : Packet} (g : OnMesh column
               let next = ahead-free (bad (mesh columns rows marks)) h 1 (rowBy h i (p .place .row .0)) (columnBy h i (p .place .column .0)) (rw (row-add h i 1 (p .place .row .0), column-add h i 1 (p .place .column .0)) (f .free (i + 1) (omega arith) (omega arith))) in
               let e = onward i (omega (arith, f .most)) in
               rw (after-is i h p, was, last-stays i h) (hop-nearing (tripOf (mesh columns rows marks) p) h _ _ (e .0) (e .1) next);
-          lands = reaches-lands column-reaches (f .most) (g .sized .few-columns) (g .sized .few-rows);
         }
+
+    -- before a block
+    pub leaves-column : inItsRow p ≡ false → Free (bad (mesh columns rows marks)) h n (p .place .row .0) (p .place .column .0) 0 → Runs (mesh columns rows marks) W 1 p
+    unfolding inItsRow isThere hopFrom hopAt hop nearing blocked distance
+    leaves-column off f =
+        let apart = eqb-false (p .place .row .0) (p .destination .row .0) off in
+        let some : 0 < n = elim (decLt 0 n) [ yes h ↦ h | no h ↦ absurd (apart (omega arith)) ] in
+        let block = ahead-bad (bad (mesh columns rows marks)) h (λ e. omega (arith, column-reaches .south e)) (λ e. omega (arith, column-reaches .west e)) (f .ends some) in
+        runs-one (mesh columns rows marks) W p (rw off)
+        (rw off (near-again (tripOf (mesh columns rows marks) p) _ _ _ is-h (rw (← is-h, was) (last-self h)) (rw block)))

@@ -1,18 +1,19 @@
 -- The two modes: one walk, leg by leg. What falls is the hop limit less the hops made, counted twice and one more in straight travel, which
 -- may hand over at once. Assumes nothing.
 use mathlib.Core.Path.{_≡_, sym, _∙_}
-use mathlib.Core.Bool.{false}
+use mathlib.Core.Bool.{false, _||_}
 use Prim.Native.Nat.{ℕ, _<_, _+_, _*_}
 use native.Mathlib.Omega.{arith}
 use borrow.Author.Tests.{not-true, not-false}
 use borrow.Fn.Kinds.{In}
 use borrow.Fn.PlainCycle.{Measures, is, falls, and}
-use Rattle.mesh.specs.Packets.{isThere}
+use Rattle.mesh.proofs.Bools.{or-none}
 use Rattle.hops.proofs.is_there.Reads as is-there-reads
-use Rattle.rules.proofs.hop.Reads as hop-reads
+use Rattle.rules.proofs.go_round.Reads as go-round-reads
+use Rattle.rules.specs.Rows.{inItsRow, nearsRow}
 use Rattle.travel.proofs.is_straight.Reads as is-straight-reads
 use Rattle.travel.proofs.next_leg.Reads as next-leg-reads
-use Rattle.route.proofs.Following.{away-round, follows-there, going-on-mesh, Along, along-none, along-one, along-few, along-leg}
+use Rattle.route.proofs.Following.{follows-there, going-on-mesh, Along, along-none, round-one, along-few, along-lands, along-leg}
 use Rattle.route.proofs.round_block.Reads as round-block
 use Rattle.route.proofs.round_block.Kinds as round-block-kinds
 use Rattle.route.proofs.+round_block+straight.Lts-round_block as round-block-lts
@@ -46,13 +47,13 @@ straight-below t =
 
 -- what the callees ask and give, below the measure t
 abbrev round-block-callees : ℕ → round-block-lts.Claims
-round-block-callees t = (hop-reads.Asked, hop-reads.Learnt, advance-reads.Asked, advance-reads.Learnt, is-straight-reads.Asked, is-straight-reads.Learnt, straight-below t, straight.Post)
+round-block-callees t = (go-round-reads.Asked, go-round-reads.Learnt, advance-reads.Asked, advance-reads.Learnt, is-straight-reads.Asked, is-straight-reads.Learnt, straight-below t, straight.Post)
 
 abbrev straight-callees : ℕ → straight-lts.Claims
-straight-callees t = (is-there-reads.Asked, is-there-reads.Learnt, next-leg-reads.Asked, next-leg-reads.Learnt, round-block-below t, round-block.Post, advance-reads.Asked, advance-reads.Learnt)
+straight-callees t = (is-there-reads.Asked, is-there-reads.Learnt, is-straight-reads.Asked, is-straight-reads.Learnt, round-block-below t, round-block.Post, next-leg-reads.Asked, next-leg-reads.Learnt, advance-reads.Asked, advance-reads.Learnt)
 
 abbrev round-block-Inv-loop : round-block-lts.InvT-loop
-round-block-Inv-loop columns rows marks out₀ begun limit p₀ made₀ left₀ out p made left = Along columns rows marks p₀ out₀ begun limit p out made left × (isThere p ≡ false)
+round-block-Inv-loop columns rows marks out₀ begun limit p₀ made₀ left₀ out p made left = Along columns rows marks p₀ out₀ begun limit p out made left × (inItsRow p || nearsRow p ≡ false)
 
 abbrev round-block-μ-loop : round-block-lts.MeasureT-loop
 round-block-μ-loop columns rows marks out₀ begun limit p₀ made₀ left₀ out p made left = left
@@ -66,35 +67,61 @@ straight-μ-loop columns rows marks out₀ begun limit p₀ made₀ left₀ out 
 round-block-loop-holds : (t : ℕ) → round-block-lts.Need-loop-holds (round-block-callees t) (round-block-at t) round-block.Post round-block-Inv-loop round-block-μ-loop
 round-block-loop-holds t c = (along-none (c .before .before .pre .1 .0), c .before .before .pre .1 .1)
 
-round-block-hop-requires : (t : ℕ) → round-block-lts.Need-hop-requires (round-block-callees t) (round-block-at t) round-block.Post round-block-Inv-loop round-block-μ-loop
-round-block-hop-requires t c κs = going-on-mesh (c .loop .inv .0 .going)
+round-block-go-round-requires : (t : ℕ) → round-block-lts.Need-go-round-requires (round-block-callees t) (round-block-at t) round-block.Post round-block-Inv-loop round-block-μ-loop
+round-block-go-round-requires t c κs =
+    let (sized, row, column) = going-on-mesh (c .loop .inv .0 .going) in
+    (sized, row, column, or-none (inItsRow (c .loop .p)) (nearsRow (c .loop .p)) (c .loop .inv .1) .1)
 
 round-block-advance-requires : (t : ℕ) → round-block-lts.Need-advance-requires (round-block-callees t) (round-block-at t) round-block.Post round-block-Inv-loop round-block-μ-loop
-round-block-advance-requires t c κs = (along-one (c .before .before .loop .inv .0) (c .before .before .loop .inv .1) (c .before .hop .ensures)) .lands
+round-block-advance-requires t c κs =
+    let at-loop = c .before .before in
+    let one = round-one (at-loop .loop .inv .1) (c .before .go-round .ensures) in
+    along-lands (at-loop .loop .inv .0) one
 
 round-block-add-made : (t : ℕ) → round-block-lts.Need-add-made (round-block-callees t) (round-block-at t) round-block.Post round-block-Inv-loop round-block-μ-loop
-round-block-add-made t c = omega (arith, along-few (c .before .before .before .before .before .loop .inv .0) (along-one (c .before .before .before .before .before .loop .inv .0) (c .before .before .before .before .before .loop .inv .1) (c .before .before .before .before .hop .ensures)))
+round-block-add-made t c =
+    let at-loop = c .before .before .before .before .before in
+    let one = round-one (at-loop .loop .inv .1) (c .before .before .before .before .go-round .ensures) in
+    omega (arith, along-few (at-loop .loop .inv .0) one)
 
 round-block-sub-left : (t : ℕ) → round-block-lts.Need-sub-left (round-block-callees t) (round-block-at t) round-block.Post round-block-Inv-loop round-block-μ-loop
-round-block-sub-left t c = omega (arith, along-few (c .before .before .before .before .before .loop .inv .0) (along-one (c .before .before .before .before .before .loop .inv .0) (c .before .before .before .before .before .loop .inv .1) (c .before .before .before .before .hop .ensures)))
+round-block-sub-left t c =
+    let at-loop = c .before .before .before .before .before in
+    let one = round-one (at-loop .loop .inv .1) (c .before .before .before .before .go-round .ensures) in
+    omega (arith, along-few (at-loop .loop .inv .0) one)
 
 round-block-is-straight-requires : (t : ℕ) → round-block-lts.Need-is-straight-requires (round-block-callees t) (round-block-at t) round-block.Post round-block-Inv-loop round-block-μ-loop
 round-block-is-straight-requires t c κs = tt
 
 round-block-straight-requires : (t : ℕ) → round-block-lts.Need-straight-requires (round-block-callees t) (round-block-at t) round-block.Post round-block-Inv-loop round-block-μ-loop
-round-block-straight-requires t c κs = (omega (arith, c .before .before .before .before .before .before .before .before .before .before .before .pre .0, c .before .before .before .before .before .before .before .before .loop .inv .0 .fell, along-few (c .before .before .before .before .before .before .before .before .loop .inv .0) (along-one (c .before .before .before .before .before .before .before .before .loop .inv .0) (c .before .before .before .before .before .before .before .before .loop .inv .1) (c .before .before .before .before .before .before .before .hop .ensures))), (along-leg (c .before .before .before .before .before .before .before .before .loop .inv .0) (along-one (c .before .before .before .before .before .before .before .before .loop .inv .0) (c .before .before .before .before .before .before .before .before .loop .inv .1) (c .before .before .before .before .before .before .before .hop .ensures)) (omega arith) (c .before .before .before .before .before .advance .ensures)) .going)
+round-block-straight-requires t c κs =
+    let at-loop = c .before .before .before .before .before .before .before .before in
+    let one = round-one (at-loop .loop .inv .1) (c .before .before .before .before .before .before .before .go-round .ensures) in
+    (omega (arith, c .before .before .before .before .before .before .before .before .before .before .before .pre .0, at-loop .loop .inv .0 .fell, along-few (at-loop .loop .inv .0) one), along-leg (at-loop .loop .inv .0) one (omega arith) (c .before .before .before .before .before .advance .ensures) .going)
 
 round-block-same-length : (t : ℕ) → round-block-lts.Need-same-length (round-block-callees t) (round-block-at t) round-block.Post round-block-Inv-loop round-block-μ-loop
-round-block-same-length t c = c .before .before .straight .kept .1 .1 .1 .1 .0 ∙ (along-leg (c .before .before .before .before .before .before .before .before .before .before .before .loop .inv .0) (along-one (c .before .before .before .before .before .before .before .before .before .before .before .loop .inv .0) (c .before .before .before .before .before .before .before .before .before .before .before .loop .inv .1) (c .before .before .before .before .before .before .before .before .before .before .hop .ensures)) (omega arith) (c .before .before .before .before .before .before .before .before .advance .ensures)) .size
+round-block-same-length t c =
+    let at-loop = c .before .before .before .before .before .before .before .before .before .before .before in
+    let one = round-one (at-loop .loop .inv .1) (c .before .before .before .before .before .before .before .before .before .before .go-round .ensures) in
+    c .before .before .straight .kept .1 .1 .1 .1 .0 ∙ along-leg (at-loop .loop .inv .0) one (omega arith) (c .before .before .before .before .before .before .before .before .advance .ensures) .size
 
 round-block-returns : (t : ℕ) → round-block-lts.Need-returns (round-block-callees t) (round-block-at t) round-block.Post round-block-Inv-loop round-block-μ-loop
-round-block-returns t c = (along-leg (c .before .before .before .before .before .before .before .before .before .before .before .loop .inv .0) (along-one (c .before .before .before .before .before .before .before .before .before .before .before .loop .inv .0) (c .before .before .before .before .before .before .before .before .before .before .before .loop .inv .1) (c .before .before .before .before .before .before .before .before .before .before .hop .ensures)) (omega arith) (c .before .before .before .before .before .before .before .before .advance .ensures)) .onward (c .before .before .straight .ensures)
+round-block-returns t c =
+    let at-loop = c .before .before .before .before .before .before .before .before .before .before .before in
+    let one = round-one (at-loop .loop .inv .1) (c .before .before .before .before .before .before .before .before .before .before .go-round .ensures) in
+    along-leg (at-loop .loop .inv .0) one (omega arith) (c .before .before .before .before .before .before .before .before .advance .ensures) .onward (c .before .before .straight .ensures)
 
 round-block-loop-less : (t : ℕ) → round-block-lts.Need-loop-less (round-block-callees t) (round-block-at t) round-block.Post round-block-Inv-loop round-block-μ-loop
-round-block-loop-less t c = omega (arith, along-few (c .before .before .before .before .before .before .before .loop .inv .0) (along-one (c .before .before .before .before .before .before .before .loop .inv .0) (c .before .before .before .before .before .before .before .loop .inv .1) (c .before .before .before .before .before .before .hop .ensures)))
+round-block-loop-less t c =
+    let at-loop = c .before .before .before .before .before .before .before in
+    let one = round-one (at-loop .loop .inv .1) (c .before .before .before .before .before .before .go-round .ensures) in
+    omega (arith, along-few (at-loop .loop .inv .0) one)
 
 round-block-loop-again : (t : ℕ) → round-block-lts.Need-loop-again (round-block-callees t) (round-block-at t) round-block.Post round-block-Inv-loop round-block-μ-loop
-round-block-loop-again t c = (along-leg (c .before .before .before .before .before .before .before .loop .inv .0) (along-one (c .before .before .before .before .before .before .before .loop .inv .0) (c .before .before .before .before .before .before .before .loop .inv .1) (c .before .before .before .before .before .before .hop .ensures)) (omega arith) (c .before .before .before .before .advance .ensures), away-round _ (c .before .is-straight .ensures) (c .if1 .left))
+round-block-loop-again t c =
+    let at-loop = c .before .before .before .before .before .before .before in
+    let one = round-one (at-loop .loop .inv .1) (c .before .before .before .before .before .before .go-round .ensures) in
+    (along-leg (at-loop .loop .inv .0) one (omega arith) (c .before .before .before .before .advance .ensures), sym (c .before .is-straight .ensures) ∙ c .if1 .left)
 
 straight-loop-holds : (t : ℕ) → straight-lts.Need-loop-holds (straight-callees t) (straight-at t) straight.Post straight-Inv-loop straight-μ-loop
 straight-loop-holds t c = along-none (c .before .before .pre .1)
@@ -102,11 +129,13 @@ straight-loop-holds t c = along-none (c .before .before .pre .1)
 straight-is-there-requires : (t : ℕ) → straight-lts.Need-is-there-requires (straight-callees t) (straight-at t) straight.Post straight-Inv-loop straight-μ-loop
 straight-is-there-requires t c κs = tt
 
-straight-next-leg-requires : (t : ℕ) → straight-lts.Need-next-leg-requires (straight-callees t) (straight-at t) straight.Post straight-Inv-loop straight-μ-loop
-straight-next-leg-requires t c κs = c .before .before .loop .inv .going .on-mesh
+straight-is-straight-requires : (t : ℕ) → straight-lts.Need-is-straight-requires (straight-callees t) (straight-at t) straight.Post straight-Inv-loop straight-μ-loop
+straight-is-straight-requires t c κs = tt
 
 straight-round-block-requires : (t : ℕ) → straight-lts.Need-round-block-requires (straight-callees t) (straight-at t) straight.Post straight-Inv-loop straight-μ-loop
-straight-round-block-requires t c κs = (omega (arith, c .before .before .before .before .before .before .before .before .pre .0, c .before .before .before .before .before .loop .inv .fell), (c .before .before .before .before .before .loop .inv .going, sym (c .before .before .before .before .is-there .ensures) ∙ not-true _ (c .before .before .before .if1 .taken)))
+straight-round-block-requires t c κs =
+    let at-loop = c .before .before .before .before .before in
+    (omega (arith, c .before .before .before .before .before .before .before .before .pre .0, at-loop .loop .inv .fell), (at-loop .loop .inv .going, sym (c .before .before .is-straight .ensures) ∙ not-true _ (c .before .if2 .taken)))
 
 straight-same-length : (t : ℕ) → straight-lts.Need-same-length (straight-callees t) (straight-at t) straight.Post straight-Inv-loop straight-μ-loop
 straight-same-length t c = c .before .before .round-block .kept .1 .1 .1 .1 .0 ∙ c .before .before .before .before .before .before .before .before .loop .inv .size
@@ -114,20 +143,39 @@ straight-same-length t c = c .before .before .round-block .kept .1 .1 .1 .1 .0 �
 straight-returns : (t : ℕ) → straight-lts.Need-returns (straight-callees t) (straight-at t) straight.Post straight-Inv-loop straight-μ-loop
 straight-returns t c = c .before .before .before .before .before .before .before .before .loop .inv .onward (c .before .before .round-block .ensures)
 
+straight-next-leg-requires : (t : ℕ) → straight-lts.Need-next-leg-requires (straight-callees t) (straight-at t) straight.Post straight-Inv-loop straight-μ-loop
+straight-next-leg-requires t c κs =
+    (c .before .before .before .before .loop .inv .going .on-mesh, sym (c .before .is-straight .ensures) ∙ not-false _ (c .if2 .left), sym (c .before .before .before .is-there .ensures) ∙ not-true _ (c .before .before .if1 .taken))
+
 straight-advance-requires : (t : ℕ) → straight-lts.Need-advance-requires (straight-callees t) (straight-at t) straight.Post straight-Inv-loop straight-μ-loop
-straight-advance-requires t c κs = c .before .before .next-leg .ensures .lands
+straight-advance-requires t c κs =
+    let at-loop = c .before .before .before .before .before .before in
+    let leg = c .before .next-leg .ensures in
+    along-lands (at-loop .loop .inv) (leg .1)
 
 straight-add-made : (t : ℕ) → straight-lts.Need-add-made (straight-callees t) (straight-at t) straight.Post straight-Inv-loop straight-μ-loop
-straight-add-made t c = omega (arith, along-few (c .before .before .before .before .before .before .before .before .loop .inv) (c .before .before .before .before .before .next-leg .ensures))
+straight-add-made t c =
+    let at-loop = c .before .before .before .before .before .before .before .before .before in
+    let leg = c .before .before .before .before .next-leg .ensures in
+    omega (arith, along-few (at-loop .loop .inv) (leg .1))
 
 straight-sub-left : (t : ℕ) → straight-lts.Need-sub-left (straight-callees t) (straight-at t) straight.Post straight-Inv-loop straight-μ-loop
-straight-sub-left t c = omega (arith, along-few (c .before .before .before .before .before .before .before .before .loop .inv) (c .before .before .before .before .before .next-leg .ensures))
+straight-sub-left t c =
+    let at-loop = c .before .before .before .before .before .before .before .before .before in
+    let leg = c .before .before .before .before .next-leg .ensures in
+    omega (arith, along-few (at-loop .loop .inv) (leg .1))
 
 straight-loop-less : (t : ℕ) → straight-lts.Need-loop-less (straight-callees t) (straight-at t) straight.Post straight-Inv-loop straight-μ-loop
-straight-loop-less t c = omega (arith, along-few (c .before .before .before .before .before .before .before .before .loop .inv) (c .before .before .before .before .before .next-leg .ensures))
+straight-loop-less t c =
+    let at-loop = c .before .before .before .before .before .before .before .before .before in
+    let leg = c .before .before .before .before .next-leg .ensures in
+    omega (arith, leg .0, along-few (at-loop .loop .inv) (leg .1))
 
 straight-loop-again : (t : ℕ) → straight-lts.Need-loop-again (straight-callees t) (straight-at t) straight.Post straight-Inv-loop straight-μ-loop
-straight-loop-again t c = along-leg (c .before .before .before .before .before .before .before .before .loop .inv) (c .before .before .before .before .before .next-leg .ensures) (omega arith) (c .before .before .advance .ensures)
+straight-loop-again t c =
+    let at-loop = c .before .before .before .before .before .before .before .before .before in
+    let leg = c .before .before .before .before .next-leg .ensures in
+    along-leg (at-loop .loop .inv) (leg .1) (leg .0) (c .before .before .advance .ensures)
 
 straight-same-length-2 : (t : ℕ) → straight-lts.Need-same-length-2 (straight-callees t) (straight-at t) straight.Post straight-Inv-loop straight-μ-loop
 straight-same-length-2 t c = c .before .before .loop .inv .size
@@ -142,7 +190,7 @@ pub +round-block+straight-spec : {M : Type 1} → statement M
     round-block-Inv-loop
     round-block-μ-loop
     (round-block-loop-holds t)
-    (round-block-hop-requires t)
+    (round-block-go-round-requires t)
     (round-block-advance-requires t)
     (round-block-add-made t)
     (round-block-sub-left t)
@@ -152,26 +200,18 @@ pub +round-block+straight-spec : {M : Type 1} → statement M
     (round-block-returns t)
     (round-block-loop-less t)
     (round-block-loop-again t))
-    λ t. straight-lts.spec (
-      is-there-reads.Asked,
-      is-there-reads.Learnt,
-      next-leg-reads.Asked,
-      next-leg-reads.Learnt,
-      round-block-below t,
-      round-block.Post,
-      advance-reads.Asked,
-      advance-reads.Learnt,
-    )
+    λ t. straight-lts.spec (straight-callees t)
     (straight-at t)
     straight.Post
     straight-Inv-loop
     straight-μ-loop
     (straight-loop-holds t)
     (straight-is-there-requires t)
-    (straight-next-leg-requires t)
+    (straight-is-straight-requires t)
     (straight-round-block-requires t)
     (straight-same-length t)
     (straight-returns t)
+    (straight-next-leg-requires t)
     (straight-advance-requires t)
     (straight-add-made t)
     (straight-sub-left t)

@@ -1,28 +1,44 @@
--- By the last hop. Assumes nothing.
+-- Toward the row by rule 5, else by the other rules. Assumes nothing.
 use borrow.Author.Needs.{needs}
-use Rattle.mesh.specs.Hops.{otherRow}
+use mathlib.Core.Path.{sym, _∙_}
+use mathlib.Core.List.{[]}
+use Rattle.mesh.specs.Mesh.{mesh}
+use Rattle.mesh.specs.Hops.{toward}
+use Rattle.rules.specs.Rows.{nearsRow}
+use Rattle.rules.proofs.Rules.{near-again}
 use Rattle.rules.proofs.other_row.Statement.{statement}
 use Rattle.rules.proofs.other_row.Tie as tie
 
-enum-told : tie.Need-enum-told
-enum-told c = search needs
+is-nearing-requires : tie.Need-is-nearing-requires
+is-nearing-requires c κs = search needs
 
-across-requires : tie.Need-across-requires
-across-requires c κs = search needs
+toward-requires : tie.Need-toward-requires
+toward-requires c κs = search needs
+
+nearing-requires : tie.Need-nearing-requires
+nearing-requires c κs = search needs
 
 returns : tie.Need-returns
-unfolding otherRow
-returns c = rw (c .before .enum-told .given .1) (c .across .ensures)
+unfolding nearsRow toward
+returns c =
+    let nears = sym (c .before .before .before .is-nearing .ensures) ∙ c .before .before .if1 .taken in
+    near-again _ _ _ _ (c .before .toward .ensures (mesh 0 0 []) 0) nears (c .nearing .ensures)
 
-enum-known-l : tie.Need-enum-known-l
-enum-known-l c = search needs
-
-after-requires : tie.Need-after-requires
-after-requires c κs = search needs
+go-round-requires : tie.Need-go-round-requires
+go-round-requires c κs =
+    let pre = c .before .before .before .pre in
+    (pre .0, pre .1, pre .2, sym (c .before .is-nearing .ensures) ∙ c .if1 .left)
 
 returns-2 : tie.Need-returns-2
-returns-2 c = rw (c .before .before .l .given .1) (c .after .ensures)
+returns-2 c = search needs
 
 pub other-row-spec : {M : Type 1} → statement M
 other-row-spec =
-    tie.close (tie.spec enum-told across-requires returns enum-known-l after-requires returns-2)
+    tie.close
+    (tie.spec
+    is-nearing-requires
+    toward-requires
+    nearing-requires
+    returns
+    go-round-requires
+    returns-2)

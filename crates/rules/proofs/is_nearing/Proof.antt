@@ -3,9 +3,9 @@ use borrow.Author.Needs.{needs}
 use mathlib.Core.List.{[]}
 use Rattle.mesh.specs.Mesh.{mesh}
 use Rattle.mesh.specs.Hops.{toward}
-use Rattle.travel.specs.Straight.{nearsRow}
-use Rattle.travel.proofs.is_nearing.Statement.{statement}
-use Rattle.travel.proofs.is_nearing.Tie as tie
+use Rattle.rules.specs.Rows.{nearsRow}
+use Rattle.rules.proofs.is_nearing.Statement.{statement}
+use Rattle.rules.proofs.is_nearing.Tie as tie
 
 toward-requires : tie.Need-toward-requires
 toward-requires c κs = search needs

@@ -1,8 +1,8 @@
 -- By the last hop. Assumes nothing.
 use borrow.Author.Needs.{needs}
-use Rattle.travel.specs.Straight.{lastIs}
-use Rattle.travel.proofs.is_last.Statement.{statement}
-use Rattle.travel.proofs.is_last.Tie as tie
+use Rattle.rules.specs.Rows.{lastIs}
+use Rattle.rules.proofs.is_last.Statement.{statement}
+use Rattle.rules.proofs.is_last.Tie as tie
 
 enum-told : tie.Need-enum-told
 enum-told c = search needs

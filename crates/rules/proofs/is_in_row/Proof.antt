@@ -1,8 +1,8 @@
 -- As it is defined. Assumes nothing.
 use mathlib.Core.Path.{refl}
-use Rattle.travel.specs.Straight.{inItsRow}
-use Rattle.travel.proofs.is_in_row.Statement.{statement}
-use Rattle.travel.proofs.is_in_row.Tie as tie
+use Rattle.rules.specs.Rows.{inItsRow}
+use Rattle.rules.proofs.is_in_row.Statement.{statement}
+use Rattle.rules.proofs.is_in_row.Tie as tie
 
 returns : tie.Need-returns
 unfolding inItsRow

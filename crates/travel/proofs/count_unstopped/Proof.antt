@@ -1,0 +1,72 @@
+-- The nodes in the way are counted, and the last hop is tested. Assumes nothing.
+use borrow.Author.Needs.{needs}
+use mathlib.Core.Path.{sym, _∙_}
+use native.Mathlib.Omega.{arith}
+use Rattle.hops.specs.Moved.{movedBy}
+use Rattle.travel.proofs.Runs.{row-reaches, row-lands, row-on, unstopped-none, unstopped-before, unstopped-all}
+use Rattle.travel.proofs.count_unstopped.Statement.{statement}
+use Rattle.travel.proofs.count_unstopped.Tie as tie
+
+distance-requires : tie.Need-distance-requires
+distance-requires c κs = search needs
+
+count-free-requires : tie.Need-count-free-requires
+count-free-requires c κs =
+    let pre = c .before .before .pre in
+    (pre .0 .sized, row-reaches (pre .0) (pre .1) (c .distance .ensures) (pre .3))
+
+returns : tie.Need-returns
+returns c =
+    let counted = c .before in
+    let pre = counted .before .before .before .pre in
+    unstopped-none (pre .0) (pre .1) (counted .before .distance .ensures) (pre .3) (counted .count-free .ensures) (pre .2) (omega arith)
+
+sub-moved-by : tie.Need-sub-moved-by
+sub-moved-by c = search needs
+
+moved-by-requires : tie.Need-moved-by-requires
+moved-by-requires c κs =
+    let counted = c .before in
+    let pre = counted .before .before .before .pre in
+    row-lands (pre .0) (pre .1) (counted .before .distance .ensures) (pre .3) (counted .count-free .ensures)
+
+is-stopped-requires : tie.Need-is-stopped-requires
+unfolding movedBy
+is-stopped-requires c κs =
+    let counted = c .before .before in
+    let pre = counted .before .before .before .pre in
+    let on = row-on (pre .0) (pre .1) (counted .before .distance .ensures) (pre .3) (counted .count-free .ensures) in
+    rw (c .moved-by .ensures) (pre .0 .sized, on .0, on .1)
+
+sub-result : tie.Need-sub-result
+sub-result c = search needs
+
+returns-2 : tie.Need-returns-2
+unfolding movedBy
+returns-2 c =
+    let tested = c .before in
+    let counted = tested .before .before .before in
+    let pre = counted .before .before .before .pre in
+    unstopped-before (pre .0) (pre .1) (counted .before .distance .ensures) (pre .3) (counted .count-free .ensures) (omega arith) (rw (tested .before .moved-by .ensures) at (tested .is-stopped .ensures)) (c .if2 .taken)
+
+returns-3 : tie.Need-returns-3
+unfolding movedBy
+returns-3 c =
+    let tested = c .before in
+    let counted = tested .before .before .before in
+    let pre = counted .before .before .before .pre in
+    unstopped-all (pre .0) (pre .1) (counted .before .distance .ensures) (pre .3) (counted .count-free .ensures) (omega arith) (rw (tested .before .moved-by .ensures) at (tested .is-stopped .ensures)) (c .if2 .left)
+
+pub count-unstopped-spec : {M : Type 1} → statement M
+count-unstopped-spec =
+    tie.close
+    (tie.spec
+    distance-requires
+    count-free-requires
+    returns
+    sub-moved-by
+    moved-by-requires
+    is-stopped-requires
+    sub-result
+    returns-2
+    returns-3)
