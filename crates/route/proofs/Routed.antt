@@ -24,6 +24,7 @@ use Rattle.mesh.proofs.Requests.{on-row, on-column, Request, request-next}
 use Rattle.mesh.proofs.Lists.{letters-length}
 use Rattle.mesh.proofs.Answers.{answer-refused, written-refused}
 use Rattle.block_theory.specs.Obstacles.{Obstacles}
+use Rattle.walk_theory.specs.Claims.{mostHops}
 use Rattle.walk_theory.proofs.Theorems.{destination-course, source-served, request-arrives, request-bound, same-walk}
 use Rattle.maps.specs.Sized.{Sized}
 use Rattle.buffers.specs.Over.{over}
@@ -58,7 +59,7 @@ module _ (columns rows : ℕ) (marks : List ℕ) (s d : Place) (sized : Sized co
         few = omega arith;
       }
 
-pub room-enough : {columns rows : ℕ} {marks : List ℕ} {p : Packet} (room : ℕ) → Going columns rows marks p 0 hopLimit → 4034 ≤ room → true ≡ leb (length (rest hopLimit (mesh columns rows marks) p)) room
+pub room-enough : {columns rows : ℕ} {marks : List ℕ} {p : Packet} (room : ℕ) → Going columns rows marks p 0 hopLimit → mostHops ≤ room → true ≡ leb (length (rest hopLimit (mesh columns rows marks) p)) room
 room-enough room g h = sym (le-leb _ room (omega (arith, g .leads .enough)))
 
 module _ (w : Mesh) (s d : Place) (out : List ℕ) where

@@ -35,6 +35,12 @@ use travel::is_straight;
 use travel::next_leg;
 use turns::letter;
 
+// No route has more hops, on any mesh: so many bytes have room for the letters of each.
+pub const MOST_HOPS: usize = 4034;
+
+// More hops than any route has.
+const HOP_LIMIT: u32 = MOST_HOPS as u32 + 1;
+
 // The packet after n hops that way, whose letters are written from index made on, as far as there is room for them.
 fn advance(p: Packet, h: Heading, n: u32, out: &mut [u8], made: u32) -> Packet
     requires { ⌜ Lands h n (p .place .row .0) (p .place .column .0) ⌝ }
@@ -103,17 +109,17 @@ fn round_block(
     }
 }
 
-// Whether the hops from here to the destination fit into so many bytes. No route has more than 4034; for less room they are counted first,
-// and written nowhere.
+// Whether the hops from here to the destination fit into so many bytes. For less room than any route needs they are counted first, and
+// written nowhere.
 fn has_room(columns: u32, rows: u32, marks: &[u8], packet: Packet, room: usize) -> bool
     requires { ⌜ Going columns rows (now marks) packet 0 hopLimit ⌝ }
     ensures { λ x. ⌜ x ≡ leb (length (rest hopLimit (mesh columns rows (now (marks .entry))) packet)) room ⌝ }
 {
-    if 4034 <= room {
+    if MOST_HOPS <= room {
         return true;
     }
     let mut nowhere = [0u8; 1];
-    let hops = straight(columns, rows, marks, packet, &mut nowhere, 0, 4035);
+    let hops = straight(columns, rows, marks, packet, &mut nowhere, 0, HOP_LIMIT);
     hops as usize <= room
 }
 
@@ -159,7 +165,7 @@ pub fn route_marked(
     if !has_room(columns, rows, marks, fresh, out.len()) {
         return Routed::Refused(Refusal::Room);
     }
-    let hops = straight(columns, rows, marks, fresh, out, 0, 4035);
+    let hops = straight(columns, rows, marks, fresh, out, 0, HOP_LIMIT);
     Routed::Hops(hops)
 }
 

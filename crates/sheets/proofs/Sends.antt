@@ -25,6 +25,7 @@ use Rattle.block_theory.specs.Obstacles.{Obstacles}
 use Rattle.block_theory.proofs.Marking.{marked-length}
 use Rattle.block_theory.proofs.Listed.{blocks-within}
 use Rattle.block_theory.proofs.Theorems.{obstacles}
+use Rattle.walk_theory.specs.Claims.{mostHops}
 use Rattle.maps.specs.Sized.{Sized}
 use Rattle.maps.proofs.Lookup.{sized}
 use Rattle.buffers.specs.Over.{Puts}
@@ -39,6 +40,7 @@ use Rattle.sheets.specs.declared.Phase.the-variants.{Start, Faults, Send
 use Rattle.sheets.specs.declared.Sheet.{Sheet}
 use Rattle.sheets.specs.declared.Answered.{Answered}
 use Rattle.sheets.specs.Sheet.{State, markedOf, answerOf, sendAnswer, blocksLine, isMisplaced, sendLine}
+use Rattle.sheets.specs.Room.{sendRoom, answerRoom}
 use Rattle.sheets.specs.Keeping.{mapOf, stateOf, MapReady, Marked, Ready, markedMesh, Sendable, Opens, Answers}
 use Rattle.sheets.proofs.Phases.{faults-begun, sends-begun}
 
@@ -54,8 +56,8 @@ unfolding answer answerOf
 answer-number zero j m xs e = cc
 answer-number (suc k) j m xs e = let q : k ≡ j = cc in rw q
 
-module _ (columns rows : ℕ) (marks : List ℕ) (s d : Place) (fits : Sized columns rows marks) (o : Obstacles columns rows (bad (mesh columns rows marks)) (blocks (mesh columns rows marks))) (out : List ℕ) (room : 4034 ≤ length out) where
-  hops-few : requestRefusals (mesh columns rows marks) s d 0 ≡ 0 → length (hopsOf (mesh columns rows marks) s d) ≤ 4034
+module _ (columns rows : ℕ) (marks : List ℕ) (s d : Place) (fits : Sized columns rows marks) (o : Obstacles columns rows (bad (mesh columns rows marks)) (blocks (mesh columns rows marks))) (out : List ℕ) (room : mostHops ≤ length out) where
+  hops-few : requestRefusals (mesh columns rows marks) s d 0 ≡ 0 → length (hopsOf (mesh columns rows marks) s d) ≤ mostHops
   hops-few clear =
       let q = request (mesh columns rows marks) s d clear in
       let short = starts columns rows marks s d fits o q .leads .enough in
@@ -84,7 +86,7 @@ module _ (columns rows : ℕ) (marks : List ℕ) (s d : Place) (fits : Sized col
       unfolding written
       told-letters = told .writes ∙ rw (same-refusal, told-hops .0)
 
-      sent-few : n ≤ 4034
+      sent-few : n ≤ mostHops
       sent-few = let t = told-hops in omega (arith, t .1, hops-few (t .0))
 
       pub sent-within : n ≤ length after
@@ -93,7 +95,7 @@ module _ (columns rows : ℕ) (marks : List ℕ) (s d : Place) (fits : Sized col
           rw told-letters
           (omega (arith, told-hops .1, letters-length (hopsOf w s d), length-append (letters (hopsOf w s d)) (drop (length (letters (hopsOf w s d))) out)))
 
-      pub sent-fits : (at size : ℕ) → at + 4044 ≤ size → (length (take n after) < 100000) × (at + length (take n after) + 10 ≤ size)
+      pub sent-fits : (at size : ℕ) → at + sendRoom ≤ size → (length (take n after) < 100000) × (at + length (take n after) + 10 ≤ size)
       sent-fits at size h =
           let taken = length-take-le n after sent-within in
           (omega (arith, taken, sent-few), omega (arith, taken, sent-few, h))
@@ -224,7 +226,7 @@ module _ (s : Sheet) {map out : List ℕ} {at : ℕ} {x : Answered} {marks after
     pub first-sendable : Sendable (x .sheet) marks
     first-sendable = sendable (x .sheet) (o .ready e) (ap (λ z. z .phase) (o .opens e))
 
-    pub first-room : MapReady s map → s .phase ≡ Faults → at + 4060 ≤ length out → x .at + 4044 ≤ length after
+    pub first-room : MapReady s map → s .phase ≡ Faults → at + answerRoom ≤ length out → x .at + sendRoom ≤ length after
     unfolding blocksLine
     first-room m f h =
         let q : isMisplaced (stateOf s map) ≡ false = sym (o .ends) ∙ e in

@@ -1,3 +1,4 @@
 pub mod Sheet
 pub mod Keeping
 pub mod Cases
+pub mod Room

@@ -7,10 +7,12 @@ ghost use lib.ListN.{length};
 ghost use Rattle.mesh.specs.Mesh.{mesh};
 ghost use Rattle.mesh.specs.Blocks.{bad, blocks};
 ghost use Rattle.block_theory.specs.Obstacles.{Obstacles};
+ghost use Rattle.walk_theory.specs.Claims.{mostHops};
 ghost use Rattle.maps.specs.Sized.{Sized};
 ghost use Rattle.buffers.specs.Over.{Puts};
 ghost use Rattle.sheets.specs.Sheet.{sendAnswer, meshLine, faultLine, sendLine, lineStep};
 ghost use Rattle.sheets.specs.declared.Phase.the-variants.{Start, Faults};
+ghost use Rattle.sheets.specs.Room.{sendRoom, answerRoom};
 ghost use Rattle.sheets.specs.Keeping.{stateOf, MapReady, Ready, markedMesh, Sendable, Opens, ended, Answers, StepsMap, Cleared};
 use maps::has_misplaced;
 use maps::is_bad_size;
@@ -23,9 +25,13 @@ use prints::put_blocks;
 use prints::put_no;
 use prints::put_ok;
 use rounds::mark;
+use route::MOST_HOPS;
 use route::route_marked;
 use words::Command;
 use words::read_command;
+
+// Room for all that is printed for a line.
+pub const ANSWER_ROOM: usize = MOST_HOPS + 26;
 
 // How far a sheet has come: its mesh line, its faults, its sends.
 pub enum Phase {
@@ -59,7 +65,7 @@ fn answer_send(
     out: &mut [u8],
     at: usize,
 ) -> usize
-    requires { ⌜ Sized columns rows (now marks) × Obstacles columns rows (bad (mesh columns rows (now marks))) (blocks (mesh columns rows (now marks))) × (4034 ≤ length (now letters)) × (at + 4044 ≤ length (now out)) ⌝ }
+    requires { ⌜ Sized columns rows (now marks) × Obstacles columns rows (bad (mesh columns rows (now marks))) (blocks (mesh columns rows (now marks))) × (mostHops ≤ length (now letters)) × (at + sendRoom ≤ length (now out)) ⌝ }
     ensures { λ x. ⌜ Puts (now (out .entry)) at (sendAnswer (mesh columns rows (now (marks .entry))) s d) x (now (out .exit)) ⌝ }
 {
     let routed = route_marked(columns, rows, marks, s, d, letters);
@@ -116,7 +122,7 @@ fn first_line(
     out: &mut [u8],
     at: usize,
 ) -> Answered
-    requires { ⌜ MapReady sheet (now map) × (sheet .phase ≡ Start) × (at + 4060 ≤ length (now out)) ⌝ }
+    requires { ⌜ MapReady sheet (now map) × (sheet .phase ≡ Start) × (at + answerRoom ≤ length (now out)) ⌝ }
     ensures { λ x. ⌜ ((number : ℕ) → StepsMap (meshLine Start number (stateOf sheet (now (map .entry))) columns rows) (now (out .entry)) at x (now (map .exit)) (now (out .exit))) ⌝ }
 {
     if is_bad_size(columns) {
@@ -147,7 +153,7 @@ fn mesh_line(
     out: &mut [u8],
     at: usize,
 ) -> Answered
-    requires { ⌜ MapReady sheet (now map) × (number < 100000) × (at + 4060 ≤ length (now out)) ⌝ }
+    requires { ⌜ MapReady sheet (now map) × (number < 100000) × (at + answerRoom ≤ length (now out)) ⌝ }
     ensures { λ x. ⌜ StepsMap (meshLine (sheet .phase) number (stateOf sheet (now (map .entry))) columns rows) (now (out .entry)) at x (now (map .exit)) (now (out .exit)) ⌝ }
 {
     let phase = sheet.phase;
@@ -167,7 +173,7 @@ fn set_fault(
     out: &mut [u8],
     at: usize,
 ) -> Answered
-    requires { ⌜ MapReady sheet (now map) × (sheet .phase ≡ Faults) × (number < 100000) × (at + 4060 ≤ length (now out)) ⌝ }
+    requires { ⌜ MapReady sheet (now map) × (sheet .phase ≡ Faults) × (number < 100000) × (at + answerRoom ≤ length (now out)) ⌝ }
     ensures { λ x. ⌜ StepsMap (faultLine Faults number (stateOf sheet (now (map .entry))) p) (now (out .entry)) at x (now (map .exit)) (now (out .exit)) ⌝ }
 {
     if sheet.rows <= p.row.0 {
@@ -194,7 +200,7 @@ fn fault_line(
     out: &mut [u8],
     at: usize,
 ) -> Answered
-    requires { ⌜ MapReady sheet (now map) × (number < 100000) × (at + 4060 ≤ length (now out)) ⌝ }
+    requires { ⌜ MapReady sheet (now map) × (number < 100000) × (at + answerRoom ≤ length (now out)) ⌝ }
     ensures { λ x. ⌜ StepsMap (faultLine (sheet .phase) number (stateOf sheet (now (map .entry))) p) (now (out .entry)) at x (now (map .exit)) (now (out .exit)) ⌝ }
 {
     let phase = sheet.phase;
@@ -207,7 +213,7 @@ fn fault_line(
 
 // blocks B, or no 5: the marking is made here, once for the whole sheet.
 pub fn open_sends(sheet: Sheet, map: &[u8], marks: &mut [u8], out: &mut [u8], at: usize) -> Answered
-    requires { ⌜ Ready sheet (now map) (now marks) × (sheet .phase ≡ Faults) × (at + 4060 ≤ length (now out)) ⌝ }
+    requires { ⌜ Ready sheet (now map) (now marks) × (sheet .phase ≡ Faults) × (at + answerRoom ≤ length (now out)) ⌝ }
     ensures { λ x. ⌜ Opens sheet (now (map .entry)) (now (out .entry)) at x (now (marks .exit)) (now (out .exit)) ⌝ }
 {
     let columns = sheet.columns;
@@ -240,7 +246,7 @@ fn next_send(
     out: &mut [u8],
     at: usize,
 ) -> usize
-    requires { ⌜ Sendable sheet (now marks) × (4034 ≤ length (now letters)) × (at + 4044 ≤ length (now out)) ⌝ }
+    requires { ⌜ Sendable sheet (now marks) × (mostHops ≤ length (now letters)) × (at + sendRoom ≤ length (now out)) ⌝ }
     ensures { λ x. ⌜ Puts (now (out .entry)) at (sendAnswer (markedMesh sheet (now (marks .entry))) s d) x (now (out .exit)) ⌝ }
 {
     let n = (sheet.columns * sheet.rows) as usize;
@@ -267,7 +273,7 @@ fn first_send(
     out: &mut [u8],
     at: usize,
 ) -> Answered
-    requires { ⌜ Ready sheet (now map) (now marks) × (sheet .phase ≡ Faults) × (4034 ≤ length (now letters)) × (at + 4060 ≤ length (now out)) ⌝ }
+    requires { ⌜ Ready sheet (now map) (now marks) × (sheet .phase ≡ Faults) × (mostHops ≤ length (now letters)) × (at + answerRoom ≤ length (now out)) ⌝ }
     ensures { λ x. ⌜ ((number : ℕ) → Answers (sendLine Faults number (stateOf sheet (now (map .entry))) s d) (now (out .entry)) at x (now (map .entry)) (now (marks .exit)) (now (out .exit))) ⌝ }
 {
     let opened = open_sends(sheet, map, marks, out, at);
@@ -295,7 +301,7 @@ fn send_line(
     out: &mut [u8],
     at: usize,
 ) -> Answered
-    requires { ⌜ Ready sheet (now map) (now marks) × (number < 100000) × (4034 ≤ length (now letters)) × (at + 4060 ≤ length (now out)) ⌝ }
+    requires { ⌜ Ready sheet (now map) (now marks) × (number < 100000) × (mostHops ≤ length (now letters)) × (at + answerRoom ≤ length (now out)) ⌝ }
     ensures { λ x. ⌜ Answers (sendLine (sheet .phase) number (stateOf sheet (now (map .entry))) s d) (now (out .entry)) at x (now (map .entry)) (now (marks .exit)) (now (out .exit)) ⌝ }
 {
     let phase = sheet.phase;
@@ -324,7 +330,7 @@ pub fn answer_line(
     out: &mut [u8],
     at: usize,
 ) -> Answered
-    requires { ⌜ Ready sheet (now map) (now marks) × (number < 100000) × (4034 ≤ length (now letters)) × (at + 4060 ≤ length (now out)) ⌝ }
+    requires { ⌜ Ready sheet (now map) (now marks) × (number < 100000) × (mostHops ≤ length (now letters)) × (at + answerRoom ≤ length (now out)) ⌝ }
     ensures { λ x. ⌜ Answers (lineStep number (stateOf sheet (now (map .entry))) (ended (now (text .entry)))) (now (out .entry)) at x (now (map .exit)) (now (marks .exit)) (now (out .exit)) ⌝ }
 {
     if 65535 < number {
