@@ -50,17 +50,22 @@ fn read_more(line: &[u8], at: usize, left: u32, n: u32) -> Spelled
     requires { ⌜ (n + 1) * 10 ^ left ≤ 1000 ⌝ }
     ensures { λ x. ⌜ numberOf (now (line .entry)) x ≡ moreAt left n (now (line .entry)) at ⌝ }
 {
-    if left == 0 {
-        return Spelled::Number(n, at);
+    let mut i = at;
+    let mut k = left;
+    let mut value = n;
+    while 0 < k {
+        if line.len() <= i {
+            return Spelled::Number(value, i);
+        }
+        let x = line[i];
+        if !is_digit(x) {
+            return Spelled::Number(value, i);
+        }
+        value = 10 * value + digit(x);
+        i += 1;
+        k -= 1;
     }
-    if line.len() <= at {
-        return Spelled::Number(n, at);
-    }
-    let x = line[at];
-    if !is_digit(x) {
-        return Spelled::Number(n, at);
-    }
-    read_more(line, at + 1, left - 1, 10 * n + digit(x))
+    Spelled::Number(value, i)
 }
 
 // A single space and a number of one to three digits, from there on.
