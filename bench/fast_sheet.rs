@@ -135,7 +135,7 @@ impl Sheet {
         Some(length)
     }
 
-    /// Answers the lines that stand whole in `text`, up to `end`, and answers how far that is. After the last part nothing may be left over.
+    /// Answers the lines that stand whole in `text`, up to `end`, and answers how far that is. What the last part leaves over is malformed.
     fn answer_lines(&mut self, text: &[u8], end: usize, is_last: bool, out: &mut Answers, output: &mut impl Write) -> usize {
         let mut at = 0;
         while !self.over {

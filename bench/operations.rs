@@ -1,8 +1,8 @@
-//! Marking and judging on 64 x 64, the proved library against bench/plain_mesh.rs.
-//!   operations CASE                   compares answers and output bytes; prints what was done, and then in one line the units of work in a
-//!                                     call and the nanoseconds of the best call, proved and plain
-//!   operations CASE proved|plain N    makes N calls and prints nothing, for counting instructions
-//! Cases: most-rounds, dense, judging, judging-nothing. `bench/run` builds it and shows its figures.
+//! The operations on 64 x 64, the proved library against bench/plain_mesh.rs. A case is a list of calls; each checks and marks its map.
+//!   operations CASE                   compares answers and output bytes; prints what was done, and then in one line the units of work in
+//!                                     the list and its nanoseconds, each call at its best, proved and plain
+//!   operations CASE proved|plain N    makes the first N calls and prints nothing, for counting instructions
+//! Cases: most-rounds, dense, judging, judging-nothing, one-map, many-maps, moving. `bench/run` builds it and shows its figures.
 #[path = "../rust/wrapper.rs"]
 mod wrapper;
 mod plain_mesh;
@@ -13,31 +13,98 @@ use wrapper::raw;
 const NODES: usize = 4096;
 const REFUSED: u32 = 65_536;
 
+type Trip = [(u32, u32); 2]; // source, destination
+
 /// All that a call is given stands here, so that the compiler cannot make the plain code for one size.
 struct Case {
     side: u32,
-    map: Vec<u8>,
-    corner: (u32, u32), // source and destination
+    maps: Vec<Vec<u8>>, // one, or one for each trip
+    trips: Vec<Trip>,
     letters: Vec<u8>,
-    calls: [fn(&Case, &mut [u8]) -> (u32, u64); 2], // proved, plain
+    calls: usize,
+    sides: [fn(&Case, &mut Lent) -> u32; 2], // one call: proved, plain
 }
 
-fn proved_mark(case: &Case, out: &mut [u8]) -> (u32, u64) {
-    (raw::mark(case.side, case.side, &case.map, out), 0)
+/// What the calls of a side write.
+#[derive(PartialEq, Eq, Debug)]
+struct Lent {
+    out: Vec<u8>,
+    index: [u64; 1],
+    packet: [u32; 5],
+    trips: usize, // how many are begun
+    moving: bool, // whether the last one goes on
 }
 
-fn plain_mark(case: &Case, out: &mut [u8]) -> (u32, u64) {
-    (plain_mesh::mark_blocks(case.side, case.side, &case.map, out).unwrap_or_else(|why| REFUSED + why), 0)
+impl Lent {
+    fn new() -> Lent {
+        Lent { out: vec![9; NODES + 8], index: [9], packet: [0; 5], trips: 0, moving: false }
+    }
 }
 
-fn proved_judge(case: &Case, _: &mut [u8]) -> (u32, u64) {
-    let mut index = [0];
-    let x = raw::judge(case.side, case.side, &case.map, case.corner, case.corner, &case.letters, &mut index);
-    (x, index[0])
+impl Case {
+    fn map(&self) -> &[u8] {
+        &self.maps[0]
+    }
+
+    /// The next trip, and its map.
+    fn begin(&self, lent: &mut Lent) -> (&[u8], Trip) {
+        let i = lent.trips;
+        lent.trips += 1;
+        (&self.maps[i % self.maps.len()], self.trips[i])
+    }
 }
 
-fn plain_judge(case: &Case, _: &mut [u8]) -> (u32, u64) {
-    plain_mesh::judge(case.side, case.side, &case.map, case.corner, case.corner, &case.letters)
+fn number(answer: Result<u32, u32>) -> u32 {
+    answer.unwrap_or_else(|why| REFUSED + why)
+}
+
+fn proved_mark(case: &Case, lent: &mut Lent) -> u32 {
+    raw::mark(case.side, case.side, case.map(), &mut lent.out)
+}
+
+fn plain_mark(case: &Case, lent: &mut Lent) -> u32 {
+    number(plain_mesh::mark_blocks(case.side, case.side, case.map(), &mut lent.out))
+}
+
+fn proved_judge(case: &Case, lent: &mut Lent) -> u32 {
+    let [s, d] = case.trips[0];
+    raw::judge(case.side, case.side, case.map(), s, d, &case.letters, &mut lent.index)
+}
+
+fn plain_judge(case: &Case, lent: &mut Lent) -> u32 {
+    let [s, d] = case.trips[0];
+    let (answer, index) = plain_mesh::judge(case.side, case.side, case.map(), s, d, &case.letters);
+    lent.index = [index];
+    answer
+}
+
+fn proved_route(case: &Case, lent: &mut Lent) -> u32 {
+    let (map, [s, d]) = case.begin(lent);
+    raw::route(case.side, case.side, map, s, d, &mut lent.out)
+}
+
+fn plain_route(case: &Case, lent: &mut Lent) -> u32 {
+    let (map, [s, d]) = case.begin(lent);
+    number(plain_mesh::route(case.side, case.side, map, s, d, &mut lent.out))
+}
+
+/// Moves a packet by one hop, a fresh one if the last has arrived.
+fn move_by(case: &Case, lent: &mut Lent, call: impl Fn(&[u8], &mut [u32]) -> u32) -> u32 {
+    if !lent.moving {
+        let (_, [s, d]) = case.begin(lent);
+        lent.packet = [s.0, s.1, 0, d.0, d.1];
+    }
+    let answer = call(case.map(), &mut lent.packet);
+    lent.moving = (1..REFUSED).contains(&answer);
+    answer
+}
+
+fn proved_move(case: &Case, lent: &mut Lent) -> u32 {
+    move_by(case, lent, |map, packet| raw::move_on(case.side, case.side, map, packet))
+}
+
+fn plain_move(case: &Case, lent: &mut Lent) -> u32 {
+    move_by(case, lent, |map, packet| number(plain_mesh::move_on(case.side, case.side, map, packet)))
 }
 
 fn at(row: usize, column: usize) -> usize {
@@ -60,19 +127,27 @@ fn map_of_most_rounds() -> Vec<u8> {
     map
 }
 
-/// Faults drawn at random, from a row on.
-fn random_map(faults: usize, first_row: usize) -> Vec<u8> {
-    let mut state = 7u32;
-    let mut draw = |n: usize| {
-        state = state.wrapping_mul(1_664_525).wrapping_add(1_013_904_223);
-        ((state as u64 * n as u64) >> 32) as usize
-    };
-    let mut map = vec![0; NODES];
-    for _ in 0..faults {
-        let row = first_row + draw(63 - first_row);
-        map[at(row, 2 + draw(60))] = 1;
+struct Random(u32);
+
+impl Random {
+    fn draw(&mut self, n: usize) -> usize {
+        self.0 = self.0.wrapping_mul(1_664_525).wrapping_add(1_013_904_223);
+        ((self.0 as u64 * n as u64) >> 32) as usize
     }
-    map
+
+    /// Faults anywhere that they are allowed, from a row on.
+    fn map(&mut self, faults: usize, first_row: usize) -> Vec<u8> {
+        let mut map = vec![0; NODES];
+        for _ in 0..faults {
+            let row = first_row + self.draw(63 - first_row);
+            map[at(row, 2 + self.draw(60))] = 1;
+        }
+        map
+    }
+
+    fn trip(&mut self) -> Trip {
+        [(); 2].map(|_| (self.draw(64) as u32, self.draw(64) as u32))
+    }
 }
 
 /// A lawful walk of 3,966 letters in rows 0 to 60, from the south-east corner back to it: west along the even columns, east along the odd
@@ -92,65 +167,120 @@ fn long_walk() -> Vec<u8> {
 }
 
 fn marking(map: Vec<u8>) -> Case {
-    Case { side: 64, map, corner: (0, 63), letters: vec![], calls: [proved_mark, plain_mark] }
+    Case { side: 64, maps: vec![map], trips: vec![[(0, 63); 2]], letters: vec![], calls: 1, sides: [proved_mark, plain_mark] }
 }
 
 /// The faults are in rows 61 and 62, out of the walk's way.
 fn judging(letters: Vec<u8>) -> Case {
-    Case { letters, calls: [proved_judge, plain_judge], ..marking(random_map(20, 61)) }
+    Case { letters, sides: [proved_judge, plain_judge], ..marking(Random(7).map(20, 61)) }
+}
+
+fn routing(maps: Vec<Vec<u8>>, trips: Vec<Trip>) -> Case {
+    Case { maps, calls: trips.len(), trips, sides: [proved_route, plain_route], ..marking(vec![]) }
+}
+
+/// From source to arrival, on routes that are served.
+fn moving(rng: &mut Random) -> Case {
+    let map = rng.map(200, 1);
+    let mesh = plain_mesh::Mesh::new(64, 64, &map).unwrap();
+    let (mut letters, mut trips, mut calls) = (vec![], vec![], 0);
+    while trips.len() < 50 {
+        let trip = rng.trip();
+        if mesh.route(trip[0], trip[1], &mut letters).is_ok() {
+            trips.push(trip);
+            calls += letters.len() + 1;
+        }
+    }
+    Case { trips, calls, sides: [proved_move, plain_move], ..marking(map) }
 }
 
 fn find_case(name: &str) -> Case {
+    let mut rng = Random(7);
     match name {
         "most-rounds" => marking(map_of_most_rounds()),
-        "dense" => marking(random_map(1000, 1)),
+        "dense" => marking(rng.map(1000, 1)),
         "judging" => judging(long_walk().into_iter().cycle().take(1_000_000).collect()),
         "judging-nothing" => judging(vec![]),
+        "one-map" => routing(vec![rng.map(200, 1)], (0..2000).map(|_| rng.trip()).collect()),
+        "many-maps" => {
+            // from 7 to 1,000 faults
+            let draw_map = |_| {
+                let faults = 1000 >> rng.draw(8);
+                rng.map(faults, 1)
+            };
+            let maps = (0..2000).map(draw_map).collect();
+            routing(maps, (0..2000).map(|_| rng.trip()).collect())
+        }
+        "moving" => moving(&mut rng),
         _ => panic!("no case {}", name),
     }
 }
 
-/// Compares both sides' answers and outputs, with a margin that no call may touch. Answers what was done, and how many units of work it is.
+/// Makes every call on both sides and compares answers and all that was lent, with a margin that no call may touch. Answers what was done,
+/// and how many units of work it is.
 fn compare(name: &str, case: &Case) -> (String, u64) {
-    let [proved, plain] = case.calls.map(|call| {
-        let mut out = vec![9; NODES + 8];
-        (call(case, &mut out), out)
-    });
-    assert_eq!(proved, plain, "{name}");
-    let (answer, index) = proved.0;
-    if name.starts_with("judging") {
-        let looked_at = case.letters.len().min(index as usize + 1);
-        let given = case.letters.len();
-        return (format!("{name}: {given} letters, both answer {answer} at {index}; no lawful walk has over 4158"), looked_at as u64);
+    let mut lents = [Lent::new(), Lent::new()];
+    let (mut served, mut hops, mut last) = (0, 0, 0);
+    for call in 0..case.calls {
+        for lent in &mut lents {
+            lent.out.fill(9);
+        }
+        let [proved, plain] = [0, 1].map(|side| case.sides[side](case, &mut lents[side]));
+        assert_eq!(proved, plain, "{name}, call {call}");
+        assert_eq!(lents[0], lents[1], "{name}, call {call}");
+        served += (proved < REFUSED) as u32;
+        hops += if proved < REFUSED { proved } else { 0 };
+        last = proved;
     }
-    let rounds = plain_mesh::Mesh::new(case.side, case.side, &case.map).unwrap().rounds;
-    let faults = case.map.iter().filter(|&&x| x == 1).count();
-    (format!("marking, {name}: {faults} faults, {rounds} rounds, outputs equal"), rounds as u64 * NODES as u64)
-}
-
-/// The best call of each side, in nanoseconds. They take turns, so that a busy machine slows both.
-fn time(case: &Case) -> [u128; 2] {
-    let mut out = vec![0; NODES];
-    let mut best = [u128::MAX; 2];
-    let start = Instant::now();
-    while start.elapsed() < Duration::from_secs(3) {
-        for (best, call) in best.iter_mut().zip(case.calls) {
-            let begun = Instant::now();
-            black_box(call(black_box(case), &mut out));
-            *best = begun.elapsed().as_nanos().min(*best);
+    let faults = case.maps[0].iter().filter(|&&x| x == 1).count();
+    let (calls, maps, trips) = (case.calls, case.maps.len(), case.trips.len());
+    match name {
+        "judging" | "judging-nothing" => {
+            let (given, index) = (case.letters.len(), lents[0].index[0]);
+            let done = format!("{name}: {given} letters, both answer {last} at {index}; no lawful walk has over 4158");
+            (done, given.min(index as usize + 1) as u64)
+        }
+        "one-map" => (
+            format!("route, one map, {faults} faults: {calls} requests in place of a million, {served} served, {hops} hops, outputs equal"),
+            calls as u64,
+        ),
+        "many-maps" => (format!("route, {maps} maps, a request each: {served} served, {hops} hops, outputs equal"), calls as u64),
+        "moving" => (
+            format!("move on, {trips} routes from source to arrival on one map, {faults} faults: {calls} calls, records equal"),
+            calls as u64,
+        ),
+        _ => {
+            let rounds = plain_mesh::Mesh::new(case.side, case.side, case.map()).unwrap().rounds;
+            (format!("marking, {name}: {faults} faults, {rounds} rounds, outputs equal"), rounds as u64 * NODES as u64)
         }
     }
-    best
+}
+
+/// The nanoseconds of the whole list on each side, each call at its best. The sides take turns, so that a busy machine slows both.
+fn time(case: &Case) -> [u64; 2] {
+    let mut best = [vec![u64::MAX; case.calls], vec![u64::MAX; case.calls]];
+    let start = Instant::now();
+    while start.elapsed() < Duration::from_secs(3) {
+        for (best, call) in best.iter_mut().zip(case.sides) {
+            let mut lent = Lent::new();
+            for best in best {
+                let begun = Instant::now();
+                black_box(call(black_box(case), &mut lent));
+                *best = (begun.elapsed().as_nanos() as u64).min(*best);
+            }
+        }
+    }
+    best.map(|all| all.iter().sum())
 }
 
 fn main() {
     let arguments: Vec<String> = std::env::args().skip(1).collect();
     let case = find_case(&arguments[0]);
     if let [_, side, n] = &arguments[..] {
-        let call = case.calls[if side == "proved" { 0 } else { 1 }];
-        let mut out = vec![0; NODES];
+        let call = case.sides[if side == "proved" { 0 } else { 1 }];
+        let mut lent = Lent::new();
         for _ in 0..n.parse().unwrap() {
-            black_box(call(black_box(&case), &mut out));
+            black_box(call(black_box(&case), &mut lent));
         }
         return;
     }

@@ -1,4 +1,4 @@
-//! Marking, routing and judging in plain Rust, for comparing speed: std only, written the direct way.
+//! The operations in plain Rust, for comparing speed: std only, written the direct way.
 #![allow(dead_code)]
 
 type Place = (u32, u32); // row, column
@@ -44,6 +44,43 @@ pub fn mark_blocks(columns: u32, rows: u32, map: &[u8], out: &mut [u8]) -> Resul
     let mesh = Mesh::marked(columns, rows, map);
     out.copy_from_slice(&mesh.map);
     Ok(mesh.blocks())
+}
+
+/// Route: the number of hops, or the refusal.
+pub fn route(columns: u32, rows: u32, map: &[u8], source: Place, destination: Place, out: &mut [u8]) -> Result<u32, u32> {
+    let mut letters = Vec::new();
+    Mesh::new(columns, rows, map)?.route(source, destination, &mut letters)?;
+    let Some(out) = out.get_mut(..letters.len()) else { return Err(10) };
+    out.copy_from_slice(&letters);
+    Ok(letters.len() as u32)
+}
+
+/// Move on, for a record in numbers as in include/pinduguil.h: the letter, 0 arrived, or the refusal; that is 0 for a bad record.
+pub fn move_on(columns: u32, rows: u32, map: &[u8], packet: &mut [u32]) -> Result<u32, u32> {
+    let [row, column, last @ 0..=4, to_row, to_column] = *packet else { return Err(0) };
+    let mesh = Mesh::new(columns, rows, map)?;
+    mesh.check_places([(row, column), (to_row, to_column)])?;
+    let last = [0, b'E', b'N', b'S', b'W'][last as usize];
+    let (r, c, dr, dc) = (row as i32, column as i32, to_row as i32, to_column as i32);
+    if mesh.near(dr, dc) {
+        return Err(8);
+    }
+    if (r, c) == (dr, dc) {
+        return Ok(0);
+    }
+    let h = mesh.hop(r, c, last, dr, dc);
+    let (to_r, to_c) = after(r, c, h);
+    if mesh.mark(to_r, to_c) != Some(0) || reverses(last, h) || forbidden(last, h, c) {
+        return Err(9);
+    }
+    let number = match h {
+        b'E' => 1,
+        b'N' => 2,
+        b'S' => 3,
+        _ => 4,
+    };
+    packet[..3].copy_from_slice(&[to_r as u32, to_c as u32, number]);
+    Ok(h as u32)
 }
 
 /// Judge a hand-in: 0 passed or what is wrong, and the length or the index.
