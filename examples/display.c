@@ -4,10 +4,10 @@
 
 #include "pinduguil.h"
 
-enum { COLUMNS = 10, ROWS = 8, ROOM = 4034 };
+enum { COLUMNS = 10, ROWS = 8 };
 
 int main(void) {
-    static uint8_t map[COLUMNS * ROWS], marks[COLUMNS * ROWS], letters[ROOM];
+    static uint8_t map[COLUMNS * ROWS], marks[COLUMNS * ROWS], letters[PINDUGUIL_MOST_HOPS];
     map[3 * COLUMNS + 4] = 1;
     map[4 * COLUMNS + 5] = 1;
 

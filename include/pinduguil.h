@@ -3,8 +3,9 @@
  * Rows and columns are counted from 0; east raises the column, north the row. A map is columns * rows bytes, row 0 first:
  * 0 sound, 1 faulty. Letters are the bytes 'E', 'N', 'S' and 'W'.
  *
- * A slice is a pointer and then the number of its elements. The pointer is never null, also where the number is 0, and an output
- * overlaps nothing else that is handed over. All other arguments may be anything: what is wrong is refused by its number.
+ * A slice is a pointer and then the number of its elements. Where the number is 0 the pointer may be NULL: nothing is read or written
+ * through it. An output overlaps nothing else that is handed over. All other arguments may be anything: what is wrong is refused by its
+ * number. Maps and letters are only read.
  *
  * Refusals, in the order in which they are tested:
  *   1 columns not 1 to 64            6 source or destination off the mesh
@@ -22,6 +23,9 @@
 /* An answer that is this or more is this plus the number of a refusal. */
 #define PINDUGUIL_REFUSED 65536u
 
+/* No route has more hops: an output of this many bytes has room for every route. */
+#define PINDUGUIL_MOST_HOPS 4034
+
 #ifdef __cplusplus
 extern "C" {
 #endif
@@ -31,7 +35,7 @@ extern "C" {
 uint32_t pinduguil_mark(uint32_t columns, uint32_t rows, const uint8_t *map, size_t map_length,
                         uint8_t *out, size_t out_length);
 
-/* Route from a source to (row, column). Writes the letters of the hops and answers their number, at most 4,034; or
+/* Route from a source to (row, column). Writes the letters of the hops and answers their number, at most PINDUGUIL_MOST_HOPS; or
  * PINDUGUIL_REFUSED plus 1 to 10. Bytes of out after the letters are left alone; on a refusal all of them are. */
 uint32_t pinduguil_route(uint32_t columns, uint32_t rows, const uint8_t *map, size_t map_length,
                          uint32_t source_row, uint32_t source_column, uint32_t row, uint32_t column,
@@ -39,16 +43,16 @@ uint32_t pinduguil_route(uint32_t columns, uint32_t rows, const uint8_t *map, si
 
 /* Judge a hand-in: letters that should lead from a source to (row, column). Answers 0 if it is passed, or what is wrong:
  * a refusal 1 to 7, or 11 not a letter, 12 leaves the mesh, 13 reverses, 14 forbidden turn, 15 enters a block, 16 does not end at the
- * destination. If index has room, index[0] becomes the hand-in's length (0 and 16), the index of the wrong letter (11 to 15) or 0
- * (1 to 7). Numbers of index beyond the first are left alone. */
+ * destination. If index has room, index[0] is written whatever the answer: the hand-in's length (0 and 16), the index of the wrong letter
+ * (11 to 15), or 0 (refusals 1 to 7). Numbers of index beyond the first are left alone. */
 uint32_t pinduguil_judge(uint32_t columns, uint32_t rows, const uint8_t *map, size_t map_length,
                          uint32_t source_row, uint32_t source_column, uint32_t row, uint32_t column,
                          const uint8_t *letters, size_t letters_length, uint64_t *index, size_t index_length);
 
-/* Move on: one hop of a packet. Its record is five numbers: row, column, last hop (0 none, 1 E, 2 N, 3 S, 4 W), destination row,
- * destination column. Answers the letter of the hop, and the record shows the new place and the last hop; or 0 if it has arrived; or
- * PINDUGUIL_REFUSED plus 1 to 9; or PINDUGUIL_REFUSED itself if the record hasn't exactly five numbers with a last hop of 0 to 4. Where
- * no letter is answered the record is left alone. */
+/* Move on: one hop of a packet. Its record is five numbers: row, column, last hop, destination row, destination column. Last hops in
+ * numbers: 0 none, 1 E, 2 N, 3 S, 4 W. Answers the letter of the hop, and the record shows the new place and the last hop; or 0 if it has
+ * arrived; or PINDUGUIL_REFUSED plus 1 to 9. The record itself is looked at before any refusal: if it hasn't exactly five numbers with a
+ * last hop of 0 to 4, the answer is PINDUGUIL_REFUSED, whatever else is wrong. Where no letter is answered the record is left alone. */
 uint32_t pinduguil_move_on(uint32_t columns, uint32_t rows, const uint8_t *map, size_t map_length,
                            uint32_t *packet, size_t packet_length);
 

@@ -1,8 +1,12 @@
-//! The proved library against a router, a marking, a judge and a move-on written separately from document 01, on random requests. Prints
-//! counts; at the first difference it prints the case and exits with status 1.
+//! The proved library against a router, a marking, a judge and a move-on written separately from document 01, on random requests: answers,
+//! every byte of an output or a record and beside it, and that maps and letters are as they were. Prints counts; at the first difference it
+//! prints the case and exits with status 1.
 //!   rt staticlib ffi && rustc -O rust/differential.rs -L target/staticlib -l static=ffi -o differential && ./differential
 mod wrapper;
-use wrapper::raw;
+use std::hint::black_box;
+use std::ptr;
+use wrapper::raw::{self, library};
+use wrapper::MOST_HOPS;
 
 const REFUSED: u32 = 65_536;
 
@@ -248,29 +252,65 @@ fn pattern(n: usize, seed: u32) -> Vec<u8> {
     (0..n + 2 * MARGIN).map(|i| (i as u32).wrapping_mul(151).wrapping_add(seed) as u8).collect()
 }
 
+/// Bytes that are only read, between margins. No call may change any of them.
+struct Input {
+    lent: Vec<u8>,
+    before: Vec<u8>,
+}
+
+impl Input {
+    fn new(bytes: &[u8]) -> Input {
+        let mut lent = pattern(bytes.len(), 0);
+        lent[MARGIN..MARGIN + bytes.len()].copy_from_slice(bytes);
+        Input { before: lent.clone(), lent }
+    }
+
+    fn bytes(&self) -> &[u8] {
+        &self.lent[MARGIN..self.lent.len() - MARGIN]
+    }
+
+    /// The compiler may not take it for granted.
+    fn is_untouched(&self) -> bool {
+        black_box(&self.lent) == black_box(&self.before)
+    }
+}
+
+/// A slice's pointer as C has it: null where there is nothing.
+fn start(xs: &[u8]) -> *const u8 {
+    if xs.is_empty() { ptr::null() } else { xs.as_ptr() }
+}
+
+fn start_mut<T>(xs: &mut [T]) -> *mut T {
+    if xs.is_empty() { ptr::null_mut() } else { xs.as_mut_ptr() }
+}
+
 #[derive(Default)]
 struct Counts {
     requests: u64,
-    mark: [u64; 11],  // by refusal; 0 answered
+    mark: [u64; 11], // by refusal; 0 answered
     route: [u64; 11],
     judge: [u64; 17],
-    move_on: [u64; 12], // 0 arrived, 1 to 9, 10 a letter, 11 no record
+    index: [u64; 17],       // of these, with room for the index
+    move_on: [u64; 12],     // 0 arrived, 1 to 9, 10 a letter, 11 no record
+    record_first: [u64; 6], // no record, by the map's refusal
+    nulls: [u64; 9],        // null pointers, by slice as in the header
     hops: u64,
     longest: usize,
-    bytes: u64,
+    outputs: u64, // bytes
+    inputs: u64,
 }
 
 /// A request's mesh, the map as it was generated, and what is known of it.
 struct Case {
     columns: u32,
     rows: u32,
-    map: Vec<u8>,
+    map: Input,
     refusal: u32,
     grid: Option<Grid>,
 }
 
 fn differs(what: &str, case: &Case, detail: String) -> ! {
-    println!("DIFFERENCE in {what}: columns {} rows {} map {:?}", case.columns, case.rows, case.map);
+    println!("DIFFERENCE in {what}: columns {} rows {} map {:?}", case.columns, case.rows, case.map.bytes());
     println!("{detail}");
     std::process::exit(1)
 }
@@ -312,7 +352,18 @@ fn make_case(rng: &mut Random, columns: usize, rows: usize) -> Case {
     }
     let refusal = map_refusal(columns, rows, &map);
     let grid = if refusal == 0 { Some(Grid::new(columns, rows, &map)) } else { None };
-    Case { columns, rows, map, refusal, grid }
+    Case { columns, rows, map: Input::new(&map), refusal, grid }
+}
+
+/// Bars from south to north, as close as blocks can be: a route along a row goes to the end of each and back.
+fn make_bars(rng: &mut Random) -> Case {
+    let mut map = vec![0; 64 * 64];
+    for column in (2..60).step_by(3) {
+        for row in 1 + rng.below(9)..63 - rng.below(9) {
+            map[row * 64 + column] = 1;
+        }
+    }
+    Case { columns: 64, rows: 64, refusal: 0, grid: Some(Grid::new(64, 64, &map)), map: Input::new(&map) }
 }
 
 fn coordinate(rng: &mut Random, n: u32) -> u32 {
@@ -340,16 +391,35 @@ fn at(p: (u32, u32)) -> At {
     (p.0 as i64, p.1 as i64)
 }
 
+/// Every other call goes as C writes it, with null for an empty slice; null pointers are counted.
+fn goes_as_c(counts: &mut Counts, first: usize, lengths: &[usize]) -> bool {
+    let as_c = counts.requests % 2 == 0;
+    for (i, _) in lengths.iter().enumerate().filter(|(_, &n)| as_c && n == 0) {
+        counts.nulls[first + i] += 1;
+    }
+    as_c
+}
+
+fn check_inputs(what: &str, case: &Case, inputs: &[&Input], counts: &mut Counts) {
+    for input in inputs {
+        counts.inputs += input.lent.len() as u64;
+        if !input.is_untouched() {
+            differs(what, case, format!("input {:?}\nbefore {:?}", input.lent, input.before));
+        }
+    }
+}
+
 fn check_bytes(what: &str, case: &Case, detail: &str, counts: &mut Counts, got: &[u8], mut expected: Vec<u8>, written: &[u8]) {
     expected[MARGIN..MARGIN + written.len()].copy_from_slice(written);
-    counts.bytes += got.len() as u64;
+    counts.outputs += got.len() as u64;
     if got != expected {
         differs(what, case, format!("{detail}\noutput {got:?}\nexpected {expected:?}"));
     }
 }
 
 fn check_mark(rng: &mut Random, case: &Case, counts: &mut Counts) {
-    let n = case.map.len();
+    let (columns, rows, map) = (case.columns, case.rows, case.map.bytes());
+    let n = map.len();
     let length = match rng.below(6) {
         0 => rng.below(24),
         1 => n.saturating_sub(1),
@@ -358,7 +428,13 @@ fn check_mark(rng: &mut Random, case: &Case, counts: &mut Counts) {
     };
     let before = pattern(length, rng.next());
     let mut out = before.clone();
-    let x = raw::mark(case.columns, case.rows, &case.map, &mut out[MARGIN..MARGIN + length]);
+    let room = &mut out[MARGIN..MARGIN + length];
+    let x = if goes_as_c(counts, 0, &[n, length]) {
+        unsafe { library::pinduguil_mark(columns, rows, start(map), n, start_mut(room), length) }
+    } else {
+        raw::mark(columns, rows, map, room)
+    };
+    check_inputs("mark", case, &[&case.map], counts);
     let refusal = if case.refusal != 0 { case.refusal } else if length < n { 10 } else { 0 };
     let (expected, written): (u32, &[u8]) = match (&case.grid, refusal) {
         (Some(g), 0) => (g.boxes.len() as u32, &g.marks),
@@ -394,7 +470,7 @@ fn check_route(rng: &mut Random, case: &Case, s: (u32, u32), d: (u32, u32), coun
         1 => n.saturating_sub(1),
         2 => n,
         3 => n + 1,
-        4 if rng.one_in(50) => 24_704 + rng.below(3),
+        4 if rng.one_in(50) => MOST_HOPS - 1 + rng.below(3),
         _ => n + rng.below(40),
     };
     if refusal == 0 && length < n {
@@ -402,7 +478,14 @@ fn check_route(rng: &mut Random, case: &Case, s: (u32, u32), d: (u32, u32), coun
     }
     let before = pattern(length, rng.next());
     let mut out = before.clone();
-    let x = raw::route(case.columns, case.rows, &case.map, s, d, &mut out[MARGIN..MARGIN + length]);
+    let (columns, rows, map) = (case.columns, case.rows, case.map.bytes());
+    let room = &mut out[MARGIN..MARGIN + length];
+    let x = if goes_as_c(counts, 2, &[map.len(), length]) {
+        unsafe { library::pinduguil_route(columns, rows, start(map), map.len(), s.0, s.1, d.0, d.1, start_mut(room), length) }
+    } else {
+        raw::route(columns, rows, map, s, d, room)
+    };
+    check_inputs("route", case, &[&case.map], counts);
     let expected = if refusal == 0 { n as u32 } else { REFUSED + refusal };
     let detail = format!("source {s:?} destination {d:?} output length {length}: answer {x}, expected {expected}");
     if x != expected {
@@ -474,23 +557,32 @@ fn judged(case: &Case, s: (u32, u32), d: (u32, u32), letters: &[u8]) -> (u32, u6
 }
 
 fn check_judge(rng: &mut Random, case: &Case, s: (u32, u32), mut d: (u32, u32), counts: &mut Counts) {
-    let letters = hand_in(rng, case, s, &mut d);
-    let expected = judged(case, s, d, &letters);
+    let (columns, rows, map) = (case.columns, case.rows, case.map.bytes());
+    let hand_in = Input::new(&hand_in(rng, case, s, &mut d));
+    let letters = hand_in.bytes();
+    let expected = judged(case, s, d, letters);
     let length = rng.below(4);
     let before: Vec<u64> = (0..length + 2).map(|i| (rng.next() as u64) << 32 | i as u64).collect();
     let mut index = before.clone();
-    let x = raw::judge(case.columns, case.rows, &case.map, s, d, &letters, &mut index[1..1 + length]);
+    let room = &mut index[1..1 + length];
+    let x = if goes_as_c(counts, 4, &[map.len(), letters.len(), length]) {
+        let (m, l) = (map.len(), letters.len());
+        unsafe { library::pinduguil_judge(columns, rows, start(map), m, s.0, s.1, d.0, d.1, start(letters), l, start_mut(room), length) }
+    } else {
+        raw::judge(columns, rows, map, s, d, letters, room)
+    };
+    check_inputs("judge", case, &[&case.map, &hand_in], counts);
     let mut after = before;
     if length > 0 {
         after[1] = expected.1;
     }
     if x != expected.0 || index != after {
-        differs("judge", case, format!(
-            "source {s:?} destination {d:?} letters {letters:?} index length {length}: answer {x}, expected {expected:?}\nindex {index:?}\nexpected {after:?}"
-        ));
+        let detail = format!("source {s:?} destination {d:?} letters {letters:?} index length {length}: answer {x}, expected {expected:?}");
+        differs("judge", case, format!("{detail}\nindex {index:?}\nexpected {after:?}"));
     }
     counts.requests += 1;
     counts.judge[x as usize] += 1;
+    counts.index[x as usize] += (length > 0) as u64;
 }
 
 /// The answer to a record, and the record after it.
@@ -527,7 +619,14 @@ fn check_move(case: &Case, packet: &mut Vec<u32>, counts: &mut Counts) -> u32 {
     let n = packet.len();
     let mut lent = vec![0xABCD_1234; n + 2];
     lent[1..1 + n].copy_from_slice(packet);
-    let x = raw::move_on(case.columns, case.rows, &case.map, &mut lent[1..1 + n]);
+    let (columns, rows, map) = (case.columns, case.rows, case.map.bytes());
+    let record = &mut lent[1..1 + n];
+    let x = if goes_as_c(counts, 7, &[map.len(), n]) {
+        unsafe { library::pinduguil_move_on(columns, rows, start(map), map.len(), start_mut(record), n) }
+    } else {
+        raw::move_on(columns, rows, map, record)
+    };
+    check_inputs("move_on", case, &[&case.map], counts);
     let margins = lent[0] == 0xABCD_1234 && lent[n + 1] == 0xABCD_1234;
     if x != expected.0 || lent[1..1 + n] != expected.1 || !margins {
         differs("move_on", case, format!("packet {packet:?}: answer {x}, expected {expected:?}\nrecord {lent:?}"));
@@ -536,6 +635,9 @@ fn check_move(case: &Case, packet: &mut Vec<u32>, counts: &mut Counts) -> u32 {
     counts.requests += 1;
     let kind = match x { 0 => 0, REFUSED => 11, _ if x > REFUSED => (x - REFUSED) as usize, _ => 10 };
     counts.move_on[kind] += 1;
+    if x == REFUSED {
+        counts.record_first[case.refusal as usize] += 1;
+    }
     x
 }
 
@@ -587,6 +689,13 @@ fn main() {
         let case = make_case(&mut rng, 64, 64);
         check_all(&mut rng, &case, 4, &mut counts);
     }
+    // long routes
+    for _ in 0..100 {
+        let case = make_bars(&mut rng);
+        let (s, d) = (coordinate(&mut rng, 64), coordinate(&mut rng, 64));
+        check_route(&mut rng, &case, (s, 0), (d, 62), &mut counts);
+        check_route(&mut rng, &case, (s, 0), (s, 63), &mut counts);
+    }
     let largest = counts.requests - sizes;
     // small ones, where blocks, rings and edges are close together
     while counts.requests < 4_000_000 {
@@ -597,17 +706,22 @@ fn main() {
     println!("{} requests, no difference: {sizes} over every size, {largest} on 64 x 64, the others on small meshes", counts.requests);
     println!("mark: answered, refusals 1 to 10: {:?}", counts.mark);
     println!("route: answered, refusals 1 to 10: {:?}; {} hops, {} in the longest", counts.route, counts.hops, counts.longest);
-    println!("judge: passed, numbers 1 to 16: {:?}", counts.judge);
+    println!("judge: passed, numbers 1 to 16: {:?}; with room for the index: {:?}", counts.judge, counts.index);
     println!("move on: arrived, refusals 1 to 9, letters, no record: {:?}", counts.move_on);
-    println!("{} output bytes compared", counts.bytes);
-    // every answer must have been met
+    println!("no record, on a good map and on one of refusals 1 to 5: {:?}", counts.record_first);
+    println!("null for an empty slice, in each of the header's nine: {:?}", counts.nulls);
+    println!("{} bytes of outputs and {} of inputs compared", counts.outputs, counts.inputs);
+    // every answer must have been met, with an index and without a record too, and every slice must have been null
     let met = |all: &[u64], these: &[usize]| these.iter().all(|&i| all[i] > 0);
     let every = met(&counts.mark, &[0, 1, 2, 3, 4, 5, 10])
         && met(&counts.route, &[0, 1, 2, 3, 4, 5, 6, 7, 8, 9, 10])
         && met(&counts.judge, &[0, 1, 2, 3, 4, 5, 6, 7, 11, 12, 13, 14, 15, 16])
-        && met(&counts.move_on, &[0, 1, 2, 3, 4, 5, 6, 7, 8, 9, 10, 11]);
+        && met(&counts.index, &[0, 1, 2, 3, 4, 5, 6, 7, 11, 12, 13, 14, 15, 16])
+        && met(&counts.move_on, &[0, 1, 2, 3, 4, 5, 6, 7, 8, 9, 10, 11])
+        && met(&counts.record_first, &[0, 1, 2, 3, 4, 5])
+        && met(&counts.nulls, &[0, 1, 2, 3, 4, 5, 6, 7, 8]);
     if !every {
-        println!("an answer was never met");
+        println!("an answer or a null pointer was never met");
         std::process::exit(1);
     }
 }

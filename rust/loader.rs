@@ -1,7 +1,7 @@
 //! Loads a map, marks it, routes a packet, judges the route and moves the packet along it; then what a bad request is answered.
 //!   rt staticlib ffi && rustc -O rust/loader.rs -L target/staticlib -l static=ffi -o loader && ./loader
 mod wrapper;
-use wrapper::{Mesh, Moved, Packet, Place};
+use wrapper::{Mesh, Moved, Packet, Place, MOST_HOPS};
 
 fn main() {
     let (columns, rows) = (10, 8);
@@ -14,7 +14,7 @@ fn main() {
     println!("blocks {:?}", mesh.mark(&mut marks));
 
     let (source, destination) = (Place { row: 1, column: 5 }, Place { row: 6, column: 5 });
-    let mut out = vec![0; 24_704];
+    let mut out = vec![0; MOST_HOPS];
     match mesh.route(source, destination, &mut out) {
         Err(why) => println!("no {}", why.0),
         Ok(letters) => {

@@ -2,9 +2,12 @@
 //! what is wrong is refused by its number (include/pinduguil.h lists them).
 #![allow(dead_code)]
 
+/// No route has more hops: an output of this many bytes has room for every route.
+pub const MOST_HOPS: usize = 4034;
+
 /// The functions of the library as they are: an answer of 65,536 or more is that plus a refusal.
 pub mod raw {
-    mod library {
+    pub mod library {
         extern "C" {
             pub fn pinduguil_mark(columns: u32, rows: u32, map: *const u8, map_length: usize, out: *mut u8, out_length: usize) -> u32;
             pub fn pinduguil_route(
@@ -19,7 +22,7 @@ pub mod raw {
         }
     }
 
-    // Each call is sound: a Rust slice is a valid, non-null, aligned pair, and a `&mut` one overlaps no other.
+    // Each call is sound: a Rust slice is a valid, aligned pair, and a `&mut` one overlaps no other.
 
     pub fn mark(columns: u32, rows: u32, map: &[u8], out: &mut [u8]) -> u32 {
         unsafe { library::pinduguil_mark(columns, rows, map.as_ptr(), map.len(), out.as_mut_ptr(), out.len()) }
