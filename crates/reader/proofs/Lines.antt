@@ -3,17 +3,17 @@ use mathlib.Core.Path.{_≡_, refl}
 use mathlib.Core.Logic.{inl, inr}
 use mathlib.Core.Bool.{Bool, true, false, cond, _&&_}
 use mathlib.Core.List.{List, [], _∷_, _++_, append-nil, append-assoc}
-use Prim.Native.Nat.{ℕ, suc, _≤_, _<_}
+use Prim.Native.Nat.{ℕ, zero, suc, _+_, _≤_, _<_}
 use native.Mathlib.Omega.{arith}
-use borrow.Author.Tests.{leb-true, leb-false}
+use borrow.Author.Tests.{eq-eqb, ne-eqb, lt-leb, leb-true, leb-false}
 use lib.Dec.{leb, eqb}
-use lib.ListN.{length, length-append}
+use lib.ListN.{length, getD, take, length-append}
 use Rattle.words.specs.declared.Command.the-variants.{Malformed}
 use Rattle.words.specs.Words.{command}
 use Rattle.prints.specs.Prints.{line, lineWord}
 use Rattle.mesh.proofs.Bools.{value}
 use Rattle.sheets.specs.Sheet.{Line, before, linesOf, State, badLine, commandStep, lineStep, answers}
-use Rattle.reader.specs.Reader.{Reader, feed, feedAll, lastLine, finish}
+use Rattle.reader.specs.Reader.{Reader, afterLine, feed, feedAll, lastLine, finish}
 
 -- bytes without a newline
 unfoldable pub Unbroken : List ℕ → Type 0
@@ -82,8 +82,22 @@ chunks r (x ∷ xs) ys =
 abbrev pub readOn : Reader → List ℕ → List ℕ
 readOn r xs = feedAll r xs .printed ++ finish (feedAll r xs .next)
 
-abbrev reading : ℕ → State → List ℕ → Bool → Reader
+abbrev pub reading : ℕ → State → List ℕ → Bool → Reader
 reading n t xs b = record { number = n; state = t; held = xs; over = b }
+
+-- at most 20 bytes without a newline, then one: a whole line
+pub line-fed : (n : ℕ) (t : State) (h xs : List ℕ) (x : ℕ) → Unbroken xs → x ≡ 10 → length h + length xs ≤ 20 → feedAll (reading n t h false) (xs ++ (x ∷ [])) ≡ afterLine n (lineStep n t (record { text = h ++ xs; ended = true }))
+unfolding Unbroken feedAll feed
+line-fed n t h [] x u e l = rw (eq-eqb x 10 e, append-nil, append-nil)
+line-fed n t h (y ∷ xs) x u e l =
+    rw (u .0, lt-leb 20 (length h) (omega arith), line-fed n t (h ++ (y ∷ [])) xs x (u .1) e (rw length-append (omega arith)), append-assoc h (y ∷ []) xs)
+
+-- bytes none of which is a newline
+pub unbroken-take : (xs : List ℕ) (k : ℕ) → ((i : ℕ) → i < k → getD xs i 0 ≡ 10 → ⊥) → k ≤ length xs → Unbroken (take k xs)
+unfolding Unbroken
+unbroken-take xs zero f l = tt
+unbroken-take [] (suc k) f l = absurd (omega arith)
+unbroken-take (x ∷ xs) (suc k) f l = (ne-eqb x 10 (f 0 (omega arith)), unbroken-take xs k (λ i less. f (suc i) (omega arith)) (omega arith))
 
 -- a byte, and then the rest
 read-more : (r : Reader) (x : ℕ) (xs : List ℕ) → r .over ≡ false → readOn r (x ∷ xs) ≡ feed r x .printed ++ readOn (feed r x .next) xs

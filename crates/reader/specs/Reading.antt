@@ -2,12 +2,13 @@
 use mathlib.Core.Path.{_≡_}
 use mathlib.Core.Bool.{false}
 use mathlib.Core.List.{List}
-use Prim.Native.Nat.{ℕ, _≤_}
-use lib.ListN.{length, take}
+use Prim.Native.Nat.{ℕ, _+_, _≤_, _<_}
+use lib.ListN.{length, getD, take}
 use Rattle.buffers.specs.Over.{Puts}
+use Rattle.sheets.specs.Room.{answerRoom}
 use Rattle.sheets.specs.Keeping.{stateOf, Ready}
 use Rattle.reader.specs.declared.Reader.{Reader as Held}
-use Rattle.reader.specs.declared.Fed.{Fed as Taken}
+use Rattle.reader.specs.declared.Taken.{Taken}
 use Rattle.reader.specs.Reader.{Reader, begun, Fed, feedAll}
 
 -- the reader of the definitions
@@ -22,17 +23,28 @@ pub record Reading (r : Held) (hold map marks : List ℕ) : Type 0 where
   pub few : r .over ≡ false → r .number ≤ 65536
   pub ready : r .over ≡ false → Ready (r .sheet) map marks
 
--- bytes are taken as the definition says
-pub record Feeds (f : Fed) (out : List ℕ) (at : ℕ) (x : Taken) (hold map marks after : List ℕ) : Type 0 where
-  pub puts : Puts out at (f .printed) (x .at) after
-  pub next : readerOf (x .reader) hold map ≡ f .next
-  pub reading : Reading (x .reader) hold map marks
+-- bytes are taken as the definition says: r is the reader after them, x the index after what is printed
+pub record Feeds (f : Fed) (out : List ℕ) (at : ℕ) (r : Held) (x : ℕ) (hold map marks after : List ℕ) : Type 0 where
+  pub puts : Puts out at (f .printed) x after
+  pub next : readerOf r hold map ≡ f .next
+  pub reading : Reading r hold map marks
 
--- of bytes, as many as are told to be taken are taken as the definition says, and written from the start of out
-pub record FeedsSome (r : Reader) (bytes out : List ℕ) (x : Taken) (hold map marks after : List ℕ) : Type 0 where
+-- x bytes stand before the first newline, or no newline is there
+pub record LineEnd (bytes : List ℕ) (x : ℕ) : Type 0 where
+  pub within : x ≤ length bytes
+  pub unbroken : (i : ℕ) → i < x → getD bytes i 0 ≡ 10 → ⊥
+  pub ends : x < length bytes → getD bytes x 0 ≡ 10
+
+-- of bytes, as many as are told to be taken are taken as the definition says
+pub record FeedsSome (r : Reader) (bytes out : List ℕ) (at : ℕ) (x : Taken) (hold map marks after : List ℕ) : Type 0 where
   pub taken : x .taken ≤ length bytes
-  pub feeds : Feeds (feedAll r (take (x .taken) bytes)) out 0 x hold map marks after
+  pub feeds : Feeds (feedAll r (take (x .taken) bytes)) out at (x .reader) (x .at) hold map marks after
+
+-- what is printed stands at the start of out; bytes are left only where the run is over, or there is no room for a further answer
+pub record TakesBytes (r : Reader) (bytes out : List ℕ) (x : Taken) (hold map marks after : List ℕ) : Type 0 where
+  pub some : FeedsSome r bytes out 0 x hold map marks after
   pub room : x .at ≤ length out
+  pub stops : x .taken < length bytes → x .reader .over ≡ false → length out < x .at + answerRoom
 
 -- the end can be told
 pub record Finishing (r : Held) (map marks : List ℕ) : Type 0 where

@@ -7,17 +7,18 @@ use Rattle.reader.proofs.Feeding.{feed-line, feed-long, feed-held}
 use Rattle.reader.proofs.take_byte.Statement.{statement}
 use Rattle.reader.proofs.take_byte.Tie as tie
 
-slice-reshare-prefix-answer-line : tie.Need-slice-reshare-prefix-answer-line
-slice-reshare-prefix-answer-line c = search needs
+slice-reshare-prefix-end-line : tie.Need-slice-reshare-prefix-end-line
+slice-reshare-prefix-end-line c = search needs
 
-slice-aggregate-answer-line : tie.Need-slice-aggregate-answer-line
-slice-aggregate-answer-line c = sym (length-take-le _ _ (omega (arith, c .before .before .before .before .before .before .before .before .pre .0 .short, c .before .before .before .before .before .before .before .before .pre .0 .room)))
+slice-aggregate-end-line : tie.Need-slice-aggregate-end-line
+slice-aggregate-end-line c =
+    let pre = c .before .before .before .before .before .before .before .before .pre in
+    sym (length-take-le _ _ (omega (arith, pre .0 .short, pre .0 .room)))
 
-answer-line-requires : tie.Need-answer-line-requires
-answer-line-requires c κs = (c .before .before .before .before .before .before .before .before .before .before .before .before .pre .0 .ready (c .before .before .before .before .before .before .before .before .before .before .before .before .pre .1), omega (arith, c .before .before .before .before .before .before .before .before .before .before .before .before .pre .0 .few (c .before .before .before .before .before .before .before .before .before .before .before .before .pre .1)), c .before .before .before .before .before .before .before .before .before .before .before .before .pre .2, c .before .before .before .before .before .before .before .before .before .before .before .before .pre .3)
-
-add-t26 : tie.Need-add-t26
-add-t26 c = omega (arith, c .before .before .before .before .before .before .before .before .before .before .before .before .before .before .before .before .before .before .before .before .before .before .pre .0 .few (c .before .before .before .before .before .before .before .before .before .before .before .before .before .before .before .before .before .before .before .before .before .before .pre .1))
+end-line-requires : tie.Need-end-line-requires
+end-line-requires c κs =
+    let pre = c .before .before .before .before .before .before .before .before .before .before .before .before .pre in
+    (pre .0 .ready (pre .1), pre .0 .few (pre .1), pre .2, pre .3)
 
 same-length : tie.Need-same-length
 same-length c = search needs
@@ -35,37 +36,44 @@ same-length-5 : tie.Need-same-length-5
 same-length-5 c = search needs
 
 returns : tie.Need-returns
-returns c = feed-line _ _ _ _ _ _ _ (c .before .before .before .before .before .before .before .before .before .before .before .before .before .before .before .before .before .before .before .before .before .before .pre .0) (c .before .before .before .before .before .before .before .before .before .before .before .before .before .before .before .before .before .before .before .before .before .before .pre .1) (c .before .before .before .before .before .before .before .before .before .before .before .before .before .before .before .if1 .taken) (c .before .before .before .before .before .before .before .before .before .answer-line .ensures)
+returns c =
+    let pre = c .before .before .before .before .before .before .before .before .before .before .before .before .before .before .before .before .before .before .before .before .before .pre in
+    feed-line _ _ _ _ _ _ _ (pre .0) (pre .1) (c .before .before .before .before .before .before .before .before .before .before .before .before .before .before .if1 .taken) (c .before .before .before .before .before .before .before .before .end-line .ensures)
 
 put-bad-line-requires : tie.Need-put-bad-line-requires
-put-bad-line-requires c κs = (omega (arith, c .before .before .before .before .before .before .before .before .before .pre .0 .few (c .before .before .before .before .before .before .before .before .before .pre .1)), omega arith)
+put-bad-line-requires c κs =
+    let pre = c .before .before .before .before .before .before .before .before .before .pre in
+    (omega (arith, pre .0 .few (pre .1)), omega arith)
 
 same-length-6 : tie.Need-same-length-6
 same-length-6 c = search needs
 
 returns-2 : tie.Need-returns-2
-returns-2 c = feed-long _ _ _ _ _ _ _ (c .before .before .before .before .before .before .before .before .before .before .before .before .pre .0) (c .before .before .before .before .before .before .before .before .before .before .before .before .pre .1) (c .before .before .before .before .before .if1 .left) (omega arith) (c .before .before .put-bad-line .ensures)
+returns-2 c =
+    let pre = c .before .before .before .before .before .before .before .before .before .before .before .before .pre in
+    feed-long _ _ _ _ _ _ _ (pre .0) (pre .1) (c .before .before .before .before .before .if1 .left) (omega arith) (c .before .before .put-bad-line .ensures)
 
 slice-write-hold : tie.Need-slice-write-hold
 slice-write-hold c = search needs
 
-add-t32 : tie.Need-add-t32
-add-t32 c = search needs
+add-t28 : tie.Need-add-t28
+add-t28 c = search needs
 
 same-length-7 : tie.Need-same-length-7
 same-length-7 c = search needs
 
 returns-3 : tie.Need-returns-3
-returns-3 c = feed-held _ _ _ _ _ _ _ (c .before .before .before .before .before .before .before .before .pre .0) (c .before .before .before .before .before .before .before .before .pre .1) (c .before .if1 .left) (omega arith) (omega arith)
+returns-3 c =
+    let pre = c .before .before .before .before .before .before .before .before .pre in
+    feed-held _ _ _ _ _ _ _ (pre .0) (pre .1) (c .before .if1 .left) (omega arith) (omega arith)
 
 pub take-byte-spec : {M : Type 1} → statement M
 take-byte-spec =
     tie.close
     (tie.spec
-    slice-reshare-prefix-answer-line
-    slice-aggregate-answer-line
-    answer-line-requires
-    add-t26
+    slice-reshare-prefix-end-line
+    slice-aggregate-end-line
+    end-line-requires
     same-length
     same-length-2
     same-length-3
@@ -76,6 +84,6 @@ take-byte-spec =
     same-length-6
     returns-2
     slice-write-hold
-    add-t32
+    add-t28
     same-length-7
     returns-3)

@@ -1,0 +1,41 @@
+-- The line is answered, and the next one begins. Assumes nothing.
+use borrow.Author.Needs.{needs}
+use native.Mathlib.Omega.{arith}
+use Rattle.reader.proofs.Feeding.{line-ends}
+use Rattle.reader.proofs.end_line.Statement.{statement}
+use Rattle.reader.proofs.end_line.Tie as tie
+
+answer-line-requires : tie.Need-answer-line-requires
+answer-line-requires c κs =
+    let pre = c .before .before .before .before .before .before .before .before .before .pre in
+    (pre .0, omega (arith, pre .1), pre .2, pre .3)
+
+add-t18 : tie.Need-add-t18
+add-t18 c = omega (arith, c .before .before .before .before .before .before .before .before .before .before .before .before .before .before .before .before .before .before .before .before .pre .1)
+
+same-length : tie.Need-same-length
+same-length c = search needs
+
+same-length-2 : tie.Need-same-length-2
+same-length-2 c = search needs
+
+same-length-3 : tie.Need-same-length-3
+same-length-3 c = search needs
+
+same-length-4 : tie.Need-same-length-4
+same-length-4 c = search needs
+
+returns : tie.Need-returns
+returns c = line-ends _ _ _ _ _ _ (c .before .before .before .before .before .before .before .before .before .before .answer-line .ensures)
+
+pub end-line-spec : {M : Type 1} → statement M
+end-line-spec =
+    tie.close
+    (tie.spec
+    answer-line-requires
+    add-t18
+    same-length
+    same-length-2
+    same-length-3
+    same-length-4
+    returns)
