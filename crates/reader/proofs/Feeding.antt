@@ -27,7 +27,7 @@ use Rattle.reader.specs.Reading.{readerOf, Reading, Feeds, LineEnd, Feed
 use Rattle.reader.proofs.Lines.{goes-on, chunks, reading, line-fed, unbroken-take}
 
 -- only a line that is at most the 65,535th lets the run go on
-goes-on-early : (n : ℕ) (t : State) (text : List ℕ) → lineStep n t (ended text) .ends ≡ false → n ≤ 65535
+pub goes-on-early : (n : ℕ) (t : State) (text : List ℕ) → lineStep n t (ended text) .ends ≡ false → n ≤ 65535
 unfolding lineStep
 goes-on-early n t text e =
     elim (value (leb n 65535)) [ inl f ↦ leb-true n 65535 f | inr f ↦ true-false refl (rw f at e) ]

@@ -68,7 +68,16 @@ fn end_line(
     requires { ⌜ Ready (reader .sheet) (now map) (now marks) × (reader .number ≤ 65536) × (mostHops ≤ length (now letters)) × (at + answerRoom ≤ length (now out)) ⌝ }
     ensures { λ x. ⌜ ((hold : List ℕ) → 20 ≤ length hold → Feeds (afterLine (reader .number) (lineStep (reader .number) (stateOf (reader .sheet) (now (map .entry))) (ended (now (text .entry))))) (now (out .entry)) at (x .reader) (x .at) hold (now (map .exit)) (now (marks .exit)) (now (out .exit))) ⌝ }
 {
-    let answered = answer_line(reader.sheet, reader.number, text, map, marks, letters, out, at);
+    let answered = answer_line(
+        reader.sheet,
+        reader.number,
+        text,
+        map,
+        marks,
+        letters,
+        out,
+        at,
+    );
     let sheet = answered.sheet;
     Fed {
         reader: Reader {

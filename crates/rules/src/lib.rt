@@ -187,7 +187,13 @@ fn other_row(columns: u32, rows: u32, marks: &[u8], p: Packet) -> Heading
     ensures { λ x. ⌜ x ≡ otherRow (tripOf (mesh columns rows (now (marks .entry))) p) (p .place .row .0) (p .place .column .0) (p .last) ⌝ }
 {
     if is_nearing(p) {
-        return nearing(columns, rows, marks, p, toward(p.place.row, p.destination.row));
+        return nearing(
+            columns,
+            rows,
+            marks,
+            p,
+            toward(p.place.row, p.destination.row),
+        );
     }
     go_round(columns, rows, marks, p)
 }

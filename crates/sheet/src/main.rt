@@ -1,39 +1,38 @@
 // The sheet program: reads a sheet from standard input and writes its answers to standard output.
 ghost use mathlib.Core.Path.{_≡_};
-ghost use mathlib.Core.Bool.{true};
-ghost use Prim.Native.Nat.{_≤_, _<_};
+ghost use Prim.Native.Nat.{_≤_};
 ghost use lib.ListN.{length};
-ghost use Rattle.reader.specs.Reading.{Reading};
+ghost use Rattle.walk_theory.specs.Claims.{mostHops};
+ghost use Rattle.sheets.specs.Room.{answerRoom};
+ghost use Rattle.reader.specs.Reading.{readerOf, Reading, TakesBytes, Finishing};
+ghost use Rattle.sheet.specs.Program.{Answers, Reads, goesOn, ReadsAll};
+use libc::STDERR_FILENO;
 use libc::STDIN_FILENO;
 use libc::STDOUT_FILENO;
 use reader::Reader;
+use reader::Taken;
 use reader::begin;
 use reader::finish;
 use reader::take_bytes;
 
-// A reader, and how many bytes it has taken.
+// Some bytes taken, and whether their answers could be written.
 struct Part {
-    reader: Reader,
-    taken: usize,
+    taken: Taken,
+    written: bool,
 }
 
-// A reader, and whether there may be more to read.
+// The reader after some bytes, and whether their answers could be written.
+struct Answered {
+    reader: Reader,
+    written: bool,
+}
+
+// What came of a read: how many bytes, or that it failed; the reader after them, and whether their answers could be written.
 struct Read {
+    came: usize,
+    failed: bool,
     reader: Reader,
-    more: bool,
-}
-
-// Nothing more is to be read.
-fn stopped(reader: Reader) -> Reader
-    ensures { λ x. ⌜ (x .over ≡ true) × (x .held ≡ reader .held) ⌝ }
-{
-    let sheet = reader.sheet;
-    Reader {
-        sheet,
-        number: reader.number,
-        held: reader.held,
-        over: true,
-    }
+    written: bool,
 }
 
 // Answers as many bytes as there is room for, and writes the answers.
@@ -46,22 +45,12 @@ fn answer_part(
     letters: &mut [u8],
     out: &mut [u8],
 ) -> Part
-    requires { ⌜ Reading reader (now hold) (now map) (now marks) × (4034 ≤ length (now letters)) × (4060 ≤ length (now out)) ⌝ }
-    ensures { λ x. ⌜ Reading (x .reader) (now (hold .exit)) (now (map .exit)) (now (marks .exit)) × (x .taken ≤ length (now (bytes .entry))) ⌝ }
+    requires { ⌜ Reading reader (now hold) (now map) (now marks) × (mostHops ≤ length (now letters)) × (answerRoom ≤ length (now out)) ⌝ }
+    ensures { λ x. ⌜ TakesBytes (readerOf reader (now (hold .entry)) (now (map .entry))) (now (bytes .entry)) (now (out .entry)) (x .taken) (now (hold .exit)) (now (map .exit)) (now (marks .exit)) (now (out .exit)) ⌝ }
 {
-    let fed = take_bytes(reader, bytes, hold, map, marks, letters, out);
-    let next = fed.reader;
-    let is_written = io::write_all(STDOUT_FILENO, &out[..fed.at]);
-    if !is_written {
-        return Part {
-            reader: stopped(next),
-            taken: 0,
-        };
-    }
-    Part {
-        reader: next,
-        taken: fed.taken,
-    }
+    let taken = take_bytes(reader, bytes, hold, map, marks, letters, out);
+    let written = io::write_all(STDOUT_FILENO, &out[..taken.at]);
+    Part { taken, written }
 }
 
 // Answers bytes of the sheet, part by part.
@@ -73,25 +62,38 @@ fn answer_some(
     marks: &mut [u8],
     letters: &mut [u8],
     out: &mut [u8],
-) -> Reader
-    requires { ⌜ Reading reader (now hold) (now map) (now marks) × (4034 ≤ length (now letters)) × (4060 ≤ length (now out)) ⌝ }
-    ensures { λ x. ⌜ Reading x (now (hold .exit)) (now (map .exit)) (now (marks .exit)) ⌝ }
+) -> Answered
+    requires { ⌜ Reading reader (now hold) (now map) (now marks) × (mostHops ≤ length (now letters)) × (answerRoom ≤ length (now out)) ⌝ }
+    ensures { λ x. ⌜ Answers (readerOf reader (now (hold .entry)) (now (map .entry))) (now (bytes .entry)) (x .reader) (x .written) (now (hold .exit)) (now (map .exit)) (now (marks .exit)) ⌝ }
 {
     let n = bytes.len();
     let mut r = reader;
     let mut used = 0;
     while used < n {
-        let part = answer_part(r, &bytes[used..], hold, map, marks, letters, out);
-        r = part.reader;
-        if part.taken == 0 {
-            return r;
+        if r.over {
+            return Answered {
+                reader: r,
+                written: true,
+            };
         }
-        used += part.taken;
+        let part = answer_part(r, &bytes[used..], hold, map, marks, letters, out);
+        let taken = part.taken;
+        r = taken.reader;
+        if !part.written {
+            return Answered {
+                reader: r,
+                written: false,
+            };
+        }
+        used += taken.taken;
     }
-    r
+    Answered {
+        reader: r,
+        written: true,
+    }
 }
 
-// Reads once and answers what came; nothing more is to be read at the end of the input.
+// Reads once, and answers what came.
 fn read_some(
     reader: Reader,
     chunk: &mut [u8],
@@ -101,31 +103,78 @@ fn read_some(
     letters: &mut [u8],
     out: &mut [u8],
 ) -> Read
-    requires { ⌜ Reading reader (now hold) (now map) (now marks) × (4034 ≤ length (now letters)) × (4060 ≤ length (now out)) ⌝ }
-    ensures { λ x. ⌜ Reading (x .reader) (now (hold .exit)) (now (map .exit)) (now (marks .exit)) ⌝ }
+    requires { ⌜ Reading reader (now hold) (now map) (now marks) × (mostHops ≤ length (now letters)) × (answerRoom ≤ length (now out)) ⌝ }
+    ensures { λ x. ⌜ Reads (readerOf reader (now (hold .entry)) (now (map .entry))) x (now (chunk .exit)) (now (hold .exit)) (now (map .exit)) (now (marks .exit)) ⌝ }
 {
     let got = libc::read(STDIN_FILENO, chunk);
-    let n = io::count(got, chunk);
-    if n == 0 {
-        return Read {
-            reader,
-            more: false,
-        };
+    let came = io::count(got, chunk);
+    let answered = answer_some(reader, &chunk[..came], hold, map, marks, letters, out);
+    let next = answered.reader;
+    Read {
+        came,
+        failed: got < 0,
+        reader: next,
+        written: answered.written,
     }
-    let next = answer_some(reader, &chunk[..n], hold, map, marks, letters, out);
-    let more = !next.over;
-    Read { reader: next, more }
 }
 
-// A loop has to end, so it counts its turns down, from a number that no run uses up.
-fn turns_left(turns: u64, more: bool) -> u64
-    requires { ⌜ 0 < turns ⌝ }
-    ensures { λ x. ⌜ x < turns ⌝ }
+// Whether to read on: something came, the run is not over, and its answers could be written.
+fn reads_on(read: Read) -> bool
+    ensures { λ x. ⌜ x ≡ goesOn read ⌝ }
 {
-    if more {
-        return turns - 1;
+    if read.came == 0 {
+        return false;
     }
-    0
+    let reader = read.reader;
+    if reader.over {
+        return false;
+    }
+    read.written
+}
+
+// Reads and answers to the end of the input or of the run, or until a read or a write fails.
+fn read_all(
+    chunk: &mut [u8],
+    hold: &mut [u8],
+    map: &mut [u8],
+    marks: &mut [u8],
+    letters: &mut [u8],
+    out: &mut [u8],
+) -> Read
+    requires { ⌜ (20 ≤ length (now hold)) × (4096 ≤ length (now map)) × (4096 ≤ length (now marks)) × (mostHops ≤ length (now letters)) × (answerRoom ≤ length (now out)) ⌝ }
+    ensures { λ x. ⌜ ReadsAll x (now (hold .exit)) (now (map .exit)) (now (marks .exit)) ⌝ }
+{
+    let mut r = begin();
+    loop {
+        let read = read_some(r, chunk, hold, map, marks, letters, out);
+        if !reads_on(read) {
+            return read;
+        }
+        r = read.reader;
+    }
+}
+
+// Says that answers could not be written.
+fn tell_unwritten() {
+    io::write_all(STDERR_FILENO, b"sheet: cannot write\n");
+}
+
+// The end of the sheet, once all of it is read. Where a read or a write failed a message says so, and nothing more is printed.
+fn end_sheet(last: Read, map: &[u8], marks: &mut [u8], out: &mut [u8])
+    requires { ⌜ Finishing (last .reader) (now map) (now marks) × (answerRoom ≤ length (now out)) ⌝ }
+{
+    if last.failed {
+        io::write_all(STDERR_FILENO, b"sheet: cannot read\n");
+        return;
+    }
+    if !last.written {
+        tell_unwritten();
+        return;
+    }
+    let at = finish(last.reader, map, marks, out, 0);
+    if !io::write_all(STDOUT_FILENO, &out[..at]) {
+        tell_unwritten();
+    }
 }
 
 // The whole sheet.
@@ -137,17 +186,10 @@ fn run(
     letters: &mut [u8],
     out: &mut [u8],
 )
-    requires { ⌜ (20 ≤ length (now hold)) × (4096 ≤ length (now map)) × (4096 ≤ length (now marks)) × (4034 ≤ length (now letters)) × (4060 ≤ length (now out)) ⌝ }
+    requires { ⌜ (20 ≤ length (now hold)) × (4096 ≤ length (now map)) × (4096 ≤ length (now marks)) × (mostHops ≤ length (now letters)) × (answerRoom ≤ length (now out)) ⌝ }
 {
-    let mut r = begin();
-    let mut turns = u64::MAX;
-    while 0 < turns {
-        let read = read_some(r, chunk, hold, map, marks, letters, out);
-        r = read.reader;
-        turns = turns_left(turns, read.more);
-    }
-    let at = finish(r, map, marks, out, 0);
-    io::write_all(STDOUT_FILENO, &out[..at]);
+    let last = read_all(chunk, hold, map, marks, letters, out);
+    end_sheet(last, map, marks, out);
 }
 
 fn main() {

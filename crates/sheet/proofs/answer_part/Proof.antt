@@ -3,7 +3,6 @@ use borrow.Author.Needs.{needs}
 use mathlib.Core.Path.{sym}
 use native.Mathlib.Omega.{arith}
 use lib.Seq.{length-take-le}
-use Rattle.sheet.proofs.Keeps.{reading-stopped}
 use Rattle.sheet.proofs.answer_part.Statement.{statement}
 use Rattle.sheet.proofs.answer_part.Tie as tie
 
@@ -11,16 +10,13 @@ take-bytes-requires : tie.Need-take-bytes-requires
 take-bytes-requires c κs = search needs
 
 slice-reshare-prefix-write-all : tie.Need-slice-reshare-prefix-write-all
-slice-reshare-prefix-write-all c = omega (arith, c .before .before .before .before .before .before .before .before .before .before .before .take-bytes .ensures .room, c .before .before .before .before .before .before .before .before .before .before .before .take-bytes .kept .1 .1 .1 .1 .1 .1 .0)
+slice-reshare-prefix-write-all c = omega (arith, c .before .before .before .before .before .before .before .before .before .before .take-bytes .ensures .room, c .before .before .before .before .before .before .before .before .before .before .take-bytes .kept .1 .1 .1 .1 .1 .1 .0)
 
 slice-aggregate-write-all : tie.Need-slice-aggregate-write-all
-slice-aggregate-write-all c = sym (length-take-le _ _ (omega (arith, c .before .before .before .before .before .before .before .before .before .before .before .before .take-bytes .ensures .room, c .before .before .before .before .before .before .before .before .before .before .before .before .take-bytes .kept .1 .1 .1 .1 .1 .1 .0)))
+slice-aggregate-write-all c = sym (length-take-le _ _ (omega (arith, c .before .before .before .before .before .before .before .before .before .before .before .take-bytes .ensures .room, c .before .before .before .before .before .before .before .before .before .before .before .take-bytes .kept .1 .1 .1 .1 .1 .1 .0)))
 
 write-all-requires : tie.Need-write-all-requires
 write-all-requires c κs = search needs
-
-stopped-requires : tie.Need-stopped-requires
-stopped-requires c κs = search needs
 
 same-length : tie.Need-same-length
 same-length c = search needs
@@ -38,25 +34,7 @@ same-length-5 : tie.Need-same-length-5
 same-length-5 c = search needs
 
 returns : tie.Need-returns
-returns c = (reading-stopped (c .before .before .before .before .before .before .before .before .before .before .before .before .before .before .before .take-bytes .ensures .feeds .reading) (c .stopped .ensures .0) (c .stopped .ensures .1), omega arith)
-
-same-length-6 : tie.Need-same-length-6
-same-length-6 c = search needs
-
-same-length-7 : tie.Need-same-length-7
-same-length-7 c = search needs
-
-same-length-8 : tie.Need-same-length-8
-same-length-8 c = search needs
-
-same-length-9 : tie.Need-same-length-9
-same-length-9 c = search needs
-
-same-length-10 : tie.Need-same-length-10
-same-length-10 c = search needs
-
-returns-2 : tie.Need-returns-2
-returns-2 c = (c .before .before .before .before .before .before .before .before .before .before .before .before .before .before .take-bytes .ensures .feeds .reading, c .before .before .before .before .before .before .before .before .before .before .before .before .before .before .take-bytes .ensures .taken)
+returns c = c .before .before .before .before .before .before .before .before .before .before .before .before .take-bytes .ensures
 
 pub answer-part-spec : {M : Type 1} → statement M
 answer-part-spec =
@@ -66,16 +44,9 @@ answer-part-spec =
     slice-reshare-prefix-write-all
     slice-aggregate-write-all
     write-all-requires
-    stopped-requires
     same-length
     same-length-2
     same-length-3
     same-length-4
     same-length-5
-    returns
-    same-length-6
-    same-length-7
-    same-length-8
-    same-length-9
-    same-length-10
-    returns-2)
+    returns)

@@ -56,9 +56,10 @@ loop-less c = omega arith
 loop-again : tie.Need-loop-again Inv-loop μ-loop
 loop-again c =
     let at-loop = c .before .before .before .before .before .before .loop in
-    let is-digit = sym (c .before .before .is-digit .ensures) ∙ not-false _ (c .before .if2 .left) in
-    (room-more _ _ _ (at-loop .inv .0) (λ e. omega arith) (omega (arith, digit-fits _ is-digit)),
-    more-digit _ _ _ (c .before .before .before .before .if1 .left) _ (λ e. omega arith) is-digit (c .digit .ensures) refl ∙ at-loop .inv .1)
+    let is-digit = sym (c .before .before .is-digit .ensures) ∙ not-false _ (c .before .if2 .left) in (
+      room-more _ _ _ (at-loop .inv .0) (λ e. omega arith) (omega (arith, digit-fits _ is-digit)),
+      more-digit _ _ _ (c .before .before .before .before .if1 .left) _ (λ e. omega arith) is-digit (c .digit .ensures) refl ∙ at-loop .inv .1,
+    )
 
 returns-3 : tie.Need-returns-3 Inv-loop μ-loop
 returns-3 c = more-full _ _ _ _ (omega arith) ∙ c .before .loop .inv .1
