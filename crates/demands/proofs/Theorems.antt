@@ -3,7 +3,7 @@ use mathlib.Core.Path.{_≡_, refl}
 use mathlib.Core.Logic.{_↔_}
 use mathlib.Core.Bool.{true}
 use mathlib.Core.List.{List}
-use Prim.Native.Nat.{ℕ, suc}
+use Prim.Native.Nat.{ℕ, suc, _≤_}
 use native.Mathlib.Omega.{arith}
 use lib.ListN.{length}
 use Rattle.mesh.specs.declared.Place.{Place}
@@ -12,9 +12,11 @@ use Rattle.mesh.specs.Mesh.{mesh, letters}
 use Rattle.mesh.specs.Blocks.{marked}
 use Rattle.mesh.specs.Walk.{bound}
 use Rattle.mesh.specs.Refusals.{unserved}
-use Rattle.mesh.specs.Operations.{Answer, routedAnswer, Routes}
+use Rattle.mesh.specs.Operations.{Answer, returned, routedAnswer, Routes}
 use Rattle.mesh.specs.Judging.{passed, judgement}
-use Rattle.walk_theory.specs.Claims.{Fails, reached}
+use Rattle.mesh.proofs.Refusals.{accepted}
+use Rattle.mesh.proofs.Requests.{request}
+use Rattle.walk_theory.specs.Claims.{mostHops, Fails, reached}
 use Rattle.walk_theory.proofs.Theorems as walks
 use Rattle.judge_theory.specs.Claims.{tripTo, startAt}
 use Rattle.judge_theory.proofs.Theorems.{judgement-of-route}
@@ -40,6 +42,18 @@ module _ (columns rows : ℕ) (map : List ℕ) (s d : Place) where
         moves = λ calls on. goes clear 0 (omega arith) refl on;
         answers = λ calls on. answers-from (goes clear 0 (omega arith) refl on);
       }
+
+  -- no route has more than 4,034 hops
+  pub routes-are-short : requestRefusal columns rows map s d ≡ 0 → length (hops columns rows map s d) ≤ mostHops
+  routes-are-short none =
+      let clear = passed-9 columns rows map s d none in
+      walks.routes-are-short (accepted columns rows map (clear .passed .map-passes)) s d (request (marked (mesh columns rows map)) s d (clear .none))
+
+  -- so with room for 4,034 letters Route serves every such request
+  pub room-for-every-route : requestRefusal columns rows map s d ≡ 0 → (out : List ℕ) (r : Routed) (after : List ℕ) → mostHops ≤ length out →
+      Routes columns rows map s d out r after → routedAnswer r ≡ returned (length (hops columns rows map s d))
+  room-for-every-route none out r after room does =
+      demand-3 none .routed out r after does .reports (omega (arith, routes-are-short none))
 
   -- the premise is about Route: where one of refusals 1 to 9 applies, Route answers the first that does and changes no byte, whatever its output holds
   pub else-refused : {k : ℕ} → requestRefusal columns rows map s d ≡ suc k → (out : List ℕ) (r : Routed) (after : List ℕ) →

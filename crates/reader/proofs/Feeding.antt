@@ -1,9 +1,9 @@
 -- A line, a byte, and bytes in turn. Assumes nothing.
-use mathlib.Core.Path.{_≡_, refl, sym, ap, _∙_}
+use mathlib.Core.Path.{_≡_, refl, sym, _∙_}
 use mathlib.Core.Logic.{inl, inr}
 use mathlib.Core.Bool.{true, false}
 use mathlib.Core.List.{List, [], _∷_, _++_, append-nil}
-use Prim.Native.Nat.{ℕ, zero, suc, _+_, _-_, _≤_, _<_}
+use Prim.Native.Nat.{ℕ, _+_, _-_, _≤_, _<_}
 use native.Mathlib.Numerals.{add-one}
 use native.Mathlib.Decide.{decLt}
 use native.Mathlib.Omega.{arith}
@@ -24,7 +24,7 @@ use Rattle.reader.specs.declared.Reader.{Reader as Held}
 use Rattle.reader.specs.declared.Taken.{Taken}
 use Rattle.reader.specs.Reader.{Reader, afterLine, feed, feedAll}
 use Rattle.reader.specs.Reading.{readerOf, Reading, Feeds, LineEnd, FeedsSome, TakesBytes}
-use Rattle.reader.proofs.Lines.{goes-on, chunks, reading, line-fed, unbroken-take}
+use Rattle.reader.proofs.Lines.{chunks, line-fed, unbroken-take}
 
 -- only a line that is at most the 65,535th lets the run go on
 pub goes-on-early : (n : ℕ) (t : State) (text : List ℕ) → lineStep n t (ended text) .ends ≡ false → n ≤ 65535

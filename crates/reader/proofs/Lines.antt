@@ -82,7 +82,7 @@ chunks r (x ∷ xs) ys =
 abbrev pub readOn : Reader → List ℕ → List ℕ
 readOn r xs = feedAll r xs .printed ++ finish (feedAll r xs .next)
 
-abbrev pub reading : ℕ → State → List ℕ → Bool → Reader
+abbrev reading : ℕ → State → List ℕ → Bool → Reader
 reading n t xs b = record { number = n; state = t; held = xs; over = b }
 
 -- at most 20 bytes without a newline, then one: a whole line

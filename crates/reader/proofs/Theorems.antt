@@ -2,11 +2,13 @@
 use mathlib.Core.Path.{_≡_}
 use mathlib.Core.Bool.{true}
 use mathlib.Core.List.{List, [], _++_}
-use Prim.Native.Nat.{ℕ}
+use Prim.Native.Nat.{ℕ, _≤_}
 use native.Mathlib.Omega.{arith}
+use lib.ListN.{length}
 use Rattle.words.proofs.Lengths.{long-malformed}
 use Rattle.sheets.specs.Sheet.{nothing, sheet}
 use Rattle.reader.specs.Reader.{Reader, begun, feedAll, finish}
+use Rattle.reader.proofs.Progress.{run-ends}
 use Rattle.reader.proofs.Lines.{Unbroken, rests, chunks, reads}
 
 -- once the run is over, nothing is printed and nothing changes
@@ -21,3 +23,7 @@ feed-chunks = chunks
 pub read-is-sheet : (xs : List ℕ) → sheet xs ≡ feedAll begun xs .printed ++ finish (feedAll begun xs .next)
 unfolding sheet Unbroken
 read-is-sheet xs = reads long-malformed 1 nothing [] xs tt (omega arith)
+
+-- a run is over after 65,536 lines of 20 bytes and a newline at the latest: so the program stops, however much it is sent
+pub runs-end : (xs : List ℕ) → 1376256 ≤ length xs → feedAll begun xs .next .over ≡ true
+runs-end = run-ends

@@ -1,8 +1,8 @@
 -- What the program's loops keep: the reader was fed the bytes so far. Assumes nothing.
 use mathlib.Core.Path.{_≡_, refl, sym, ap, _∙_}
-use mathlib.Core.Bool.{Bool, true, false, not, _&&_}
+use mathlib.Core.Bool.{Bool, true, false, not}
 use mathlib.Core.List.{List, [], _++_}
-use Prim.Native.Nat.{ℕ, zero, suc, _+_, _-_, _*_, _≤_, _<_}
+use Prim.Native.Nat.{ℕ, _+_, _-_, _*_, _≤_, _<_}
 use native.Mathlib.Decide.{decLt}
 use native.Mathlib.Omega.{arith}
 use borrow.Author.Tests.{ltb-true, not-true}
@@ -15,7 +15,6 @@ use Rattle.reader.specs.declared.Reader.{Reader as Held}
 use Rattle.reader.specs.declared.Taken.{Taken}
 use Rattle.reader.specs.Reader.{Reader, begun, feedAll}
 use Rattle.reader.specs.Reading.{readerOf, Reading, TakesBytes, Finishing, Begins}
-use Rattle.reader.proofs.Feeding.{part-fits, part-some}
 use Rattle.reader.proofs.Progress.{progresses}
 use Rattle.reader.proofs.Theorems.{over-rests, feed-chunks}
 use Rattle.sheet.specs.declared.Read.{Read}

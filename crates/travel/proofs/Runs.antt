@@ -21,7 +21,7 @@ use Rattle.mesh.specs.Moving.{hopFrom}
 use Rattle.mesh.proofs.Bools.{and-right}
 use Rattle.hops.specs.Moved.{rowBy, columnBy, movedBy, Lands, Reaches, Free}
 use Rattle.hops.proofs.Ways.{row-none, column-none, row-next, column-next, row-add, column-add, ahead-free, ahead-bad, reaches-lands, reaches-on}
-use Rattle.rules.specs.Rows.{lastIs, inItsRow, nearsRow}
+use Rattle.rules.specs.Rows.{inItsRow, nearsRow}
 use Rattle.rules.proofs.Rules.{last-made, last-self, near-again}
 use Rattle.travel.specs.Straight.{OnMesh, after, Runs, Unstopped}
 use Rattle.travel.proofs.Ways.{side-stays, side-reaches, side-row, toward-stays, toward-reaches}

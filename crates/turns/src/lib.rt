@@ -1,4 +1,4 @@
-// The turn test, and the letters of hops. Nothing else knows which turns are forbidden.
+// The turn test, and the letters of hops. Odd and even columns are told apart here, in the turn test, and in the hop rules (rules::is_own).
 ghost use mathlib.Core.Path.{_≡_};
 ghost use mathlib.Core.Bool.{_||_};
 ghost use Rattle.mesh.specs.declared.Heading.the-variants.{North, South};

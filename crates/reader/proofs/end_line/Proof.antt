@@ -11,7 +11,9 @@ answer-line-requires c κs =
     (pre .0, omega (arith, pre .1), pre .2, pre .3)
 
 add-t18 : tie.Need-add-t18
-add-t18 c = omega (arith, c .before .before .before .before .before .before .before .before .before .before .before .before .before .before .before .before .before .before .before .before .pre .1)
+add-t18 c =
+    let at-entry = c .before .before .before .before .before .before .before .before .before .before .before .before .before .before .before .before .before .before .before .before in
+    omega (arith, at-entry .pre .1)
 
 same-length : tie.Need-same-length
 same-length c = search needs
@@ -26,7 +28,9 @@ same-length-4 : tie.Need-same-length-4
 same-length-4 c = search needs
 
 returns : tie.Need-returns
-returns c = line-ends _ _ _ _ _ _ (c .before .before .before .before .before .before .before .before .before .before .answer-line .ensures)
+returns c =
+    let at-answer-line = c .before .before .before .before .before .before .before .before .before .before in
+    line-ends _ _ _ _ _ _ (at-answer-line .answer-line .ensures)
 
 pub end-line-spec : {M : Type 1} → statement M
 end-line-spec =

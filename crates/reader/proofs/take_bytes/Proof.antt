@@ -19,7 +19,9 @@ abbrev μ-loop : tie.MeasureT-loop
 μ-loop bytes hold₀ map₀ marks₀ letters₀ out₀ n room r₀ at₀ i₀ hold map marks letters out r at i = n - i
 
 sub-room : tie.Need-sub-room Inv-loop μ-loop
-sub-room c = c .before .before .before .before .before .before .pre .2
+sub-room c =
+    let at-entry = c .before .before .before .before .before .before in
+    at-entry .pre .2
 
 loop-holds : tie.Need-loop-holds Inv-loop μ-loop
 loop-holds c =
@@ -60,7 +62,9 @@ same-length-10 : tie.Need-same-length-10 Inv-loop μ-loop
 same-length-10 c = c .before .before .before .loop .inv .8 .size
 
 returns-2 : tie.Need-returns-2 Inv-loop μ-loop
-returns-2 c = taken (c .before .before .before .loop .inv .8) (omega arith) (λ less on. omega (arith, c .before .before .before .loop .inv .2))
+returns-2 c =
+    let at-loop = c .before .before .before in
+    taken (at-loop .loop .inv .8) (omega arith) (λ less on. omega (arith, at-loop .loop .inv .2))
 
 sub-take-some : tie.Need-sub-take-some Inv-loop μ-loop
 sub-take-some c = omega arith

@@ -19,7 +19,9 @@ end-line-requires c κs =
     (pre .0 .ready (pre .1), pre .0 .few (pre .1), pre .2, pre .3)
 
 add-t28 : tie.Need-add-t28
-add-t28 c = omega (arith, c .before .before .before .before .before .before .before .before .before .before .before .before .before .before .before .before .before .before .before .before .before .before .before .before .before .before .good .1 .0)
+add-t28 c =
+    let at-entry = c .before .before .before .before .before .before .before .before .before .before .before .before .before .before .before .before .before .before .before .before .before .before .before .before .before .before in
+    omega (arith, at-entry .good .1 .0)
 
 same-length : tie.Need-same-length
 same-length c = search needs
@@ -39,7 +41,9 @@ returns c =
     (whole-line _ _ _ _ _ _ _ (pre .0) (pre .1) (c .before .before .before .before .before .before .before .before .before .before .before .before .before .before .before .before .before .line-end .ensures) (c .before .before .before .before .before .before .before .before .before .before .before .before .before .before .before .before .if2 .taken) (c .before .before .before .before .before .before .before .before .before .before .before .before .before .before .before .before .before .before .if1 .taken) (c .before .before .before .before .before .before .before .before .before .before .before .before .before .before .before .if3 .taken) (c .before .before .before .before .before .before .before .before .before .end-line .ensures), omega arith)
 
 shared-slice-read-take-byte : tie.Need-shared-slice-read-take-byte
-shared-slice-read-take-byte c = omega (arith, c .before .before .before .before .before .before .before .before .before .pre .4)
+shared-slice-read-take-byte c =
+    let at-entry = c .before .before .before .before .before .before .before .before .before in
+    omega (arith, at-entry .pre .4)
 
 take-byte-requires : tie.Need-take-byte-requires
 take-byte-requires c κs =

@@ -138,10 +138,14 @@ straight-round-block-requires t c κs =
     (omega (arith, c .before .before .before .before .before .before .before .before .pre .0, at-loop .loop .inv .fell), (at-loop .loop .inv .going, sym (c .before .before .is-straight .ensures) ∙ not-true _ (c .before .if2 .taken)))
 
 straight-same-length : (t : ℕ) → straight-lts.Need-same-length (straight-callees t) (straight-at t) straight.Post straight-Inv-loop straight-μ-loop
-straight-same-length t c = c .before .before .round-block .kept .1 .1 .1 .1 .0 ∙ c .before .before .before .before .before .before .before .before .loop .inv .size
+straight-same-length t c =
+    let at-loop = c .before .before .before .before .before .before .before .before in
+    c .before .before .round-block .kept .1 .1 .1 .1 .0 ∙ at-loop .loop .inv .size
 
 straight-returns : (t : ℕ) → straight-lts.Need-returns (straight-callees t) (straight-at t) straight.Post straight-Inv-loop straight-μ-loop
-straight-returns t c = c .before .before .before .before .before .before .before .before .loop .inv .onward (c .before .before .round-block .ensures)
+straight-returns t c =
+    let at-loop = c .before .before .before .before .before .before .before .before in
+    at-loop .loop .inv .onward (c .before .before .round-block .ensures)
 
 straight-next-leg-requires : (t : ℕ) → straight-lts.Need-next-leg-requires (straight-callees t) (straight-at t) straight.Post straight-Inv-loop straight-μ-loop
 straight-next-leg-requires t c κs =

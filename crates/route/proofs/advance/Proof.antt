@@ -16,7 +16,10 @@ same-length : tie.Need-same-length
 same-length c = search needs
 
 returns : tie.Need-returns
-returns c = (c .moved-by .ensures, rw (← c .before .before .before .before .letter .ensures) (c .before .before .before .fill .ensures))
+returns c =
+    let at-fill = c .before .before .before in
+    let at-letter = at-fill .before in
+    (c .moved-by .ensures, rw (← at-letter .letter .ensures) (at-fill .fill .ensures))
 
 pub advance-spec : {M : Type 1} → statement M
 advance-spec =

@@ -25,19 +25,28 @@ enum-told : tie.Need-enum-told
 enum-told c = search needs
 
 array-share-prefix-marks : tie.Need-array-share-prefix-marks
-array-share-prefix-marks c = omega (arith, c .before .before .before .mark-map .kept .1 .1 .1 .0, clear-few _ _ _ (marks-clear _ _ _ (c .before .before .before .mark-map .ensures) (c .enum-told .given .1)))
+array-share-prefix-marks c =
+    let at-mark-map = c .before .before .before in
+    omega (arith, at-mark-map .mark-map .kept .1 .1 .1 .0, clear-few _ _ _ (marks-clear _ _ _ (at-mark-map .mark-map .ensures) (c .enum-told .given .1)))
 
 slice-aggregate-route-marked : tie.Need-slice-aggregate-route-marked
-slice-aggregate-route-marked c = sym (length-take-le _ _ (omega (arith, c .before .before .before .before .mark-map .kept .1 .1 .1 .0, clear-few _ _ _ (marks-clear _ _ _ (c .before .before .before .before .mark-map .ensures) (c .before .enum-told .given .1)))))
+slice-aggregate-route-marked c =
+    let at-mark-map = c .before .before .before .before in
+    sym (length-take-le _ _ (omega (arith, at-mark-map .mark-map .kept .1 .1 .1 .0, clear-few _ _ _ (marks-clear _ _ _ (at-mark-map .mark-map .ensures) (c .before .enum-told .given .1)))))
 
 route-marked-requires : tie.Need-route-marked-requires
-route-marked-requires c κs = (marks-sized _ _ _ (c .before .before .before .before .before .mark-map .ensures) (c .before .before .enum-told .given .1), marks-obstacles _ _ _ (c .before .before .before .before .before .mark-map .ensures) (c .before .before .enum-told .given .1))
+route-marked-requires c κs =
+    let at-mark-map = c .before .before .before .before .before in
+    (marks-sized _ _ _ (at-mark-map .mark-map .ensures) (c .before .before .enum-told .given .1), marks-obstacles _ _ _ (at-mark-map .mark-map .ensures) (c .before .before .enum-told .given .1))
 
 same-length : tie.Need-same-length
 same-length c = search needs
 
 returns-2 : tie.Need-returns-2
-returns-2 c = marked-routed _ _ _ _ _ _ (marks-clear _ _ _ (c .before .before .before .before .before .before .before .before .mark-map .ensures) (c .before .before .before .before .before .enum-told .given .1)) (c .before .before .before .before .before .before .before .before .mark-map .ensures .marks (c .before .before .before .before .before .enum-told .given .1)) (c .before .before .route-marked .ensures)
+returns-2 c =
+    let at-enum-told = c .before .before .before .before .before in
+    let at-mark-map = at-enum-told .before .before .before in
+    marked-routed _ _ _ _ _ _ (marks-clear _ _ _ (at-mark-map .mark-map .ensures) (at-enum-told .enum-told .given .1)) (at-mark-map .mark-map .ensures .marks (at-enum-told .enum-told .given .1)) (c .before .before .route-marked .ensures)
 
 pub route-spec : {M : Type 1} → statement M
 route-spec =

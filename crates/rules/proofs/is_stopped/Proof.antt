@@ -17,13 +17,20 @@ is-own-requires : tie.Need-is-own-requires
 is-own-requires c κs = search needs
 
 returns-2 : tie.Need-returns-2
-returns-2 c = stopped-not _ _ _ (c .before .before .before .before .side .ensures _ _) (c .before .before .before .is-bad-ahead .ensures) (c .before .before .if1 .left) (c .before .is-own .ensures _ _ _) (c .if2 .taken)
+returns-2 c =
+    let at-is-bad-ahead = c .before .before .before in
+    let at-side = at-is-bad-ahead .before in
+    stopped-not _ _ _ (at-side .side .ensures _ _) (at-is-bad-ahead .is-bad-ahead .ensures) (c .before .before .if1 .left) (c .before .is-own .ensures _ _ _) (c .if2 .taken)
 
 is-bad-ahead-requires-2 : tie.Need-is-bad-ahead-requires-2
 is-bad-ahead-requires-2 c κs = search needs
 
 returns-3 : tie.Need-returns-3
-returns-3 c = stopped-second _ _ _ (c .before .before .before .before .before .side .ensures _ _) (c .before .before .before .before .is-bad-ahead .ensures) (c .before .before .before .if1 .left) (c .before .before .is-own .ensures _ _ _) (c .before .if2 .left) (c .is-bad-ahead2 .ensures)
+returns-3 c =
+    let at-if1 = c .before .before .before in
+    let at-is-bad-ahead = at-if1 .before in
+    let at-side = at-is-bad-ahead .before in
+    stopped-second _ _ _ (at-side .side .ensures _ _) (at-is-bad-ahead .is-bad-ahead .ensures) (at-if1 .if1 .left) (c .before .before .is-own .ensures _ _ _) (c .before .if2 .left) (c .is-bad-ahead2 .ensures)
 
 pub is-stopped-spec : {M : Type 1} → statement M
 is-stopped-spec =

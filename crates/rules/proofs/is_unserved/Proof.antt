@@ -21,11 +21,21 @@ returns-2 c = served-open _ _ _ (c .before .before .before .is-own .ensures _ _ 
 
 returns-3 : tie.Need-returns-3
 unfolding unserved
-returns-3 c = shut-row _ _ _ (c .before .before .before .before .before .before .is-own .ensures _ _ _) (c .before .before .before .before .before .if1 .left) (c .before .before .before .before .is-bad-ahead .ensures) (c .before .before .before .if2 .left) (c .if3 .taken)
+returns-3 c =
+    let at-if2 = c .before .before .before in
+    let at-is-bad-ahead = at-if2 .before in
+    let at-if1 = at-is-bad-ahead .before in
+    let at-is-own = at-if1 .before in
+    shut-row _ _ _ (at-is-own .is-own .ensures _ _ _) (at-if1 .if1 .left) (at-is-bad-ahead .is-bad-ahead .ensures) (at-if2 .if2 .left) (c .if3 .taken)
 
 returns-4 : tie.Need-returns-4
 unfolding unserved
-returns-4 c = shut-west _ _ _ (c .before .before .before .before .before .before .before .before .is-own .ensures _ _ _) (c .before .before .before .before .before .before .before .if1 .left) (c .before .before .before .before .before .before .is-bad-ahead .ensures) (c .before .before .before .before .before .if2 .left) (c .before .before .if3 .left)
+returns-4 c =
+    let at-if2 = c .before .before .before .before .before in
+    let at-is-bad-ahead = at-if2 .before in
+    let at-if1 = at-is-bad-ahead .before in
+    let at-is-own = at-if1 .before in
+    shut-west _ _ _ (at-is-own .is-own .ensures _ _ _) (at-if1 .if1 .left) (at-is-bad-ahead .is-bad-ahead .ensures) (at-if2 .if2 .left) (c .before .before .if3 .left)
 
 pub is-unserved-spec : {M : Type 1} → statement M
 is-unserved-spec =

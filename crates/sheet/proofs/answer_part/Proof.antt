@@ -10,10 +10,14 @@ take-bytes-requires : tie.Need-take-bytes-requires
 take-bytes-requires c κs = search needs
 
 slice-reshare-prefix-write-all : tie.Need-slice-reshare-prefix-write-all
-slice-reshare-prefix-write-all c = omega (arith, c .before .before .before .before .before .before .before .before .before .before .take-bytes .ensures .room, c .before .before .before .before .before .before .before .before .before .before .take-bytes .kept .1 .1 .1 .1 .1 .1 .0)
+slice-reshare-prefix-write-all c =
+    let at-take-bytes = c .before .before .before .before .before .before .before .before .before .before in
+    omega (arith, at-take-bytes .take-bytes .ensures .room, at-take-bytes .take-bytes .kept .1 .1 .1 .1 .1 .1 .0)
 
 slice-aggregate-write-all : tie.Need-slice-aggregate-write-all
-slice-aggregate-write-all c = sym (length-take-le _ _ (omega (arith, c .before .before .before .before .before .before .before .before .before .before .before .take-bytes .ensures .room, c .before .before .before .before .before .before .before .before .before .before .before .take-bytes .kept .1 .1 .1 .1 .1 .1 .0)))
+slice-aggregate-write-all c =
+    let at-take-bytes = c .before .before .before .before .before .before .before .before .before .before .before in
+    sym (length-take-le _ _ (omega (arith, at-take-bytes .take-bytes .ensures .room, at-take-bytes .take-bytes .kept .1 .1 .1 .1 .1 .1 .0)))
 
 write-all-requires : tie.Need-write-all-requires
 write-all-requires c κs = search needs
@@ -34,7 +38,9 @@ same-length-5 : tie.Need-same-length-5
 same-length-5 c = search needs
 
 returns : tie.Need-returns
-returns c = c .before .before .before .before .before .before .before .before .before .before .before .before .take-bytes .ensures
+returns c =
+    let at-take-bytes = c .before .before .before .before .before .before .before .before .before .before .before .before in
+    at-take-bytes .take-bytes .ensures
 
 pub answer-part-spec : {M : Type 1} → statement M
 answer-part-spec =

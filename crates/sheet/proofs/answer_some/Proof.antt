@@ -3,7 +3,6 @@ use mathlib.Core.Path.{_≡_, refl, _∙_}
 use Prim.Native.Nat.{_≤_, _-_}
 use native.Mathlib.Omega.{arith}
 use borrow.Author.Needs.{needs}
-use borrow.Author.Tests.{not-true, not-false}
 use lib.ListN.{length}
 use Rattle.walk_theory.specs.Claims.{mostHops}
 use Rattle.sheets.specs.Room.{answerRoom}
@@ -57,22 +56,39 @@ answer-part-requires c κs =
     (at-loop .inv .9 .reading, at-loop .inv .7, at-loop .inv .8)
 
 same-length-6 : tie.Need-same-length-6 Inv-loop μ-loop
-same-length-6 c = c .before .before .before .before .before .before .before .before .before .before .before .before .before .before .answer-part .kept .1 .1 .0 ∙ c .before .before .before .before .before .before .before .before .before .before .before .before .before .before .before .before .before .before .before .before .before .before .before .loop .inv .2
+same-length-6 c =
+    let at-answer-part = c .before .before .before .before .before .before .before .before .before .before .before .before .before .before in
+    let at-loop = at-answer-part .before .before .before .before .before .before .before .before .before in
+    at-answer-part .answer-part .kept .1 .1 .0 ∙ at-loop .loop .inv .2
 
 same-length-7 : tie.Need-same-length-7 Inv-loop μ-loop
-same-length-7 c = c .before .before .before .before .before .before .before .before .before .before .before .before .before .before .answer-part .kept .1 .1 .1 .0 ∙ c .before .before .before .before .before .before .before .before .before .before .before .before .before .before .before .before .before .before .before .before .before .before .before .loop .inv .3
+same-length-7 c =
+    let at-answer-part = c .before .before .before .before .before .before .before .before .before .before .before .before .before .before in
+    let at-loop = at-answer-part .before .before .before .before .before .before .before .before .before in
+    at-answer-part .answer-part .kept .1 .1 .1 .0 ∙ at-loop .loop .inv .3
 
 same-length-8 : tie.Need-same-length-8 Inv-loop μ-loop
-same-length-8 c = c .before .before .before .before .before .before .before .before .before .before .before .before .before .before .answer-part .kept .1 .1 .1 .1 .0 ∙ c .before .before .before .before .before .before .before .before .before .before .before .before .before .before .before .before .before .before .before .before .before .before .before .loop .inv .4
+same-length-8 c =
+    let at-answer-part = c .before .before .before .before .before .before .before .before .before .before .before .before .before .before in
+    let at-loop = at-answer-part .before .before .before .before .before .before .before .before .before in
+    at-answer-part .answer-part .kept .1 .1 .1 .1 .0 ∙ at-loop .loop .inv .4
 
 same-length-9 : tie.Need-same-length-9 Inv-loop μ-loop
-same-length-9 c = c .before .before .before .before .before .before .before .before .before .before .before .before .before .before .answer-part .kept .1 .1 .1 .1 .1 .0 ∙ c .before .before .before .before .before .before .before .before .before .before .before .before .before .before .before .before .before .before .before .before .before .before .before .loop .inv .5
+same-length-9 c =
+    let at-answer-part = c .before .before .before .before .before .before .before .before .before .before .before .before .before .before in
+    let at-loop = at-answer-part .before .before .before .before .before .before .before .before .before in
+    at-answer-part .answer-part .kept .1 .1 .1 .1 .1 .0 ∙ at-loop .loop .inv .5
 
 same-length-10 : tie.Need-same-length-10 Inv-loop μ-loop
-same-length-10 c = c .before .before .before .before .before .before .before .before .before .before .before .before .before .before .answer-part .kept .1 .1 .1 .1 .1 .1 .0 ∙ c .before .before .before .before .before .before .before .before .before .before .before .before .before .before .before .before .before .before .before .before .before .before .before .loop .inv .6
+same-length-10 c =
+    let at-answer-part = c .before .before .before .before .before .before .before .before .before .before .before .before .before .before in
+    let at-loop = at-answer-part .before .before .before .before .before .before .before .before .before in
+    at-answer-part .answer-part .kept .1 .1 .1 .1 .1 .1 .0 ∙ at-loop .loop .inv .6
 
 returns-2 : tie.Need-returns-2 Inv-loop μ-loop
-returns-2 c = unwritten (c .before .before .before .before .before .before .before .before .before .before .before .before .before .before .answer-part .ensures .some .feeds .reading)
+returns-2 c =
+    let at-answer-part = c .before .before .before .before .before .before .before .before .before .before .before .before .before .before in
+    unwritten (at-answer-part .answer-part .ensures .some .feeds .reading)
 
 add-used : tie.Need-add-used Inv-loop μ-loop
 add-used c =

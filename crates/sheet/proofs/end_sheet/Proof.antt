@@ -26,10 +26,14 @@ finish-requires : tie.Need-finish-requires
 finish-requires c κs = search needs
 
 slice-reshare-prefix-write-all : tie.Need-slice-reshare-prefix-write-all
-slice-reshare-prefix-write-all c = omega (arith, c .before .before .before .before .finish .ensures (replicate 20 0) (omega arith) .fits, c .before .before .before .before .finish .kept .1 .1 .1 .0)
+slice-reshare-prefix-write-all c =
+    let at-finish = c .before .before .before .before in
+    omega (arith, at-finish .finish .ensures (replicate 20 0) (omega arith) .fits, at-finish .finish .kept .1 .1 .1 .0)
 
 slice-aggregate-write-all-2 : tie.Need-slice-aggregate-write-all-2
-slice-aggregate-write-all-2 c = sym (length-take-le _ _ (omega (arith, c .before .before .before .before .before .finish .ensures (replicate 20 0) (omega arith) .fits, c .before .before .before .before .before .finish .kept .1 .1 .1 .0)))
+slice-aggregate-write-all-2 c =
+    let at-finish = c .before .before .before .before .before in
+    sym (length-take-le _ _ (omega (arith, at-finish .finish .ensures (replicate 20 0) (omega arith) .fits, at-finish .finish .kept .1 .1 .1 .0)))
 
 write-all-requires-2 : tie.Need-write-all-requires-2
 write-all-requires-2 c κs = search needs

@@ -33,28 +33,52 @@ reads-on-requires : tie.Need-reads-on-requires Inv-loop μ-loop
 reads-on-requires c κs = tt
 
 same-length : tie.Need-same-length Inv-loop μ-loop
-same-length c = c .before .before .before .before .before .before .before .before .before .before .before .before .before .before .read-some .kept .1 .0 ∙ c .before .before .before .before .before .before .before .before .before .before .before .before .before .before .before .before .before .before .before .before .before .loop .inv .0
+same-length c =
+    let at-read-some = c .before .before .before .before .before .before .before .before .before .before .before .before .before .before in
+    let at-loop = at-read-some .before .before .before .before .before .before .before in
+    at-read-some .read-some .kept .1 .0 ∙ at-loop .loop .inv .0
 
 same-length-2 : tie.Need-same-length-2 Inv-loop μ-loop
-same-length-2 c = c .before .before .before .before .before .before .before .before .before .before .before .before .before .before .read-some .kept .1 .1 .0 ∙ c .before .before .before .before .before .before .before .before .before .before .before .before .before .before .before .before .before .before .before .before .before .loop .inv .1
+same-length-2 c =
+    let at-read-some = c .before .before .before .before .before .before .before .before .before .before .before .before .before .before in
+    let at-loop = at-read-some .before .before .before .before .before .before .before in
+    at-read-some .read-some .kept .1 .1 .0 ∙ at-loop .loop .inv .1
 
 same-length-3 : tie.Need-same-length-3 Inv-loop μ-loop
-same-length-3 c = c .before .before .before .before .before .before .before .before .before .before .before .before .before .before .read-some .kept .1 .1 .1 .0 ∙ c .before .before .before .before .before .before .before .before .before .before .before .before .before .before .before .before .before .before .before .before .before .loop .inv .2
+same-length-3 c =
+    let at-read-some = c .before .before .before .before .before .before .before .before .before .before .before .before .before .before in
+    let at-loop = at-read-some .before .before .before .before .before .before .before in
+    at-read-some .read-some .kept .1 .1 .1 .0 ∙ at-loop .loop .inv .2
 
 same-length-4 : tie.Need-same-length-4 Inv-loop μ-loop
-same-length-4 c = c .before .before .before .before .before .before .before .before .before .before .before .before .before .before .read-some .kept .1 .1 .1 .1 .0 ∙ c .before .before .before .before .before .before .before .before .before .before .before .before .before .before .before .before .before .before .before .before .before .loop .inv .3
+same-length-4 c =
+    let at-read-some = c .before .before .before .before .before .before .before .before .before .before .before .before .before .before in
+    let at-loop = at-read-some .before .before .before .before .before .before .before in
+    at-read-some .read-some .kept .1 .1 .1 .1 .0 ∙ at-loop .loop .inv .3
 
 same-length-5 : tie.Need-same-length-5 Inv-loop μ-loop
-same-length-5 c = c .before .before .before .before .before .before .before .before .before .before .before .before .before .before .read-some .kept .1 .1 .1 .1 .1 .0 ∙ c .before .before .before .before .before .before .before .before .before .before .before .before .before .before .before .before .before .before .before .before .before .loop .inv .4
+same-length-5 c =
+    let at-read-some = c .before .before .before .before .before .before .before .before .before .before .before .before .before .before in
+    let at-loop = at-read-some .before .before .before .before .before .before .before in
+    at-read-some .read-some .kept .1 .1 .1 .1 .1 .0 ∙ at-loop .loop .inv .4
 
 same-length-6 : tie.Need-same-length-6 Inv-loop μ-loop
-same-length-6 c = c .before .before .before .before .before .before .before .before .before .before .before .before .before .before .read-some .kept .1 .1 .1 .1 .1 .1 .0 ∙ c .before .before .before .before .before .before .before .before .before .before .before .before .before .before .before .before .before .before .before .before .before .loop .inv .5
+same-length-6 c =
+    let at-read-some = c .before .before .before .before .before .before .before .before .before .before .before .before .before .before in
+    let at-loop = at-read-some .before .before .before .before .before .before .before in
+    at-read-some .read-some .kept .1 .1 .1 .1 .1 .1 .0 ∙ at-loop .loop .inv .5
 
 returns : tie.Need-returns Inv-loop μ-loop
-returns c = going-stops (c .before .before .before .before .before .before .before .before .before .before .before .before .before .before .before .before .before .before .before .before .before .loop .inv .8) _ (c .before .before .before .before .before .before .before .before .before .before .before .before .before .before .read-some .ensures) (c .before .reads-on .ensures) (not-true _ (c .if1 .taken))
+returns c =
+    let at-read-some = c .before .before .before .before .before .before .before .before .before .before .before .before .before .before in
+    let at-loop = at-read-some .before .before .before .before .before .before .before in
+    going-stops (at-loop .loop .inv .8) _ (at-read-some .read-some .ensures) (c .before .reads-on .ensures) (not-true _ (c .if1 .taken))
 
 loop-less : tie.Need-loop-less Inv-loop μ-loop
-loop-less c = going-less (c .before .before .before .before .before .before .before .before .before .before .before .before .before .before .before .before .before .before .before .before .before .before .loop .inv .8) _ (c .before .before .before .before .before .before .before .before .before .before .before .before .before .before .before .read-some .ensures) (c .before .before .reads-on .ensures) (not-false _ (c .before .if1 .left))
+loop-less c =
+    let at-read-some = c .before .before .before .before .before .before .before .before .before .before .before .before .before .before .before in
+    let at-loop = at-read-some .before .before .before .before .before .before .before in
+    going-less (at-loop .loop .inv .8) _ (at-read-some .read-some .ensures) (c .before .before .reads-on .ensures) (not-false _ (c .before .if1 .left))
 
 loop-again : tie.Need-loop-again Inv-loop μ-loop
 loop-again c =

@@ -1,6 +1,5 @@
 -- The nodes in the way are counted, and the last hop is tested. Assumes nothing.
 use borrow.Author.Needs.{needs}
-use mathlib.Core.Path.{sym, _∙_}
 use native.Mathlib.Omega.{arith}
 use Rattle.hops.specs.Moved.{movedBy}
 use Rattle.travel.proofs.Runs.{row-reaches, row-lands, row-on, unstopped-none, unstopped-before, unstopped-all}
