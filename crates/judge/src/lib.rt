@@ -20,20 +20,23 @@ use mesh::Place;
 use mesh::Tested;
 use places::check_places;
 
-// The hop that a byte names.
+// The hop that a byte names, found by two tests or three: no table of jumps is made of them.
 fn read_letter(x: u8) -> Letter
     ensures { λ l. ⌜ l ≡ named x ⌝ }
 {
-    if x == 69 {
-        return Letter::Hop(Heading::East);
+    if x < b'O' {
+        if x == b'E' {
+            return Letter::Hop(Heading::East);
+        }
+        if x == b'N' {
+            return Letter::Hop(Heading::North);
+        }
+        return Letter::Other;
     }
-    if x == 78 {
-        return Letter::Hop(Heading::North);
-    }
-    if x == 83 {
+    if x == b'S' {
         return Letter::Hop(Heading::South);
     }
-    if x == 87 {
+    if x == b'W' {
         return Letter::Hop(Heading::West);
     }
     Letter::Other
