@@ -12,16 +12,38 @@ abbrev vertical : Heading → Bool
 vertical h = same h N || same h S
 
 module _ (west : ℕ → Bool) (c : ℕ) where
-  pub from-vertical : (g h : Heading) → vertical g ≡ true → forbidden west c g h ≡ same h W && not (west c)
+  -- to W: after N and S
+  pub to-west : (g h : Heading) → same h W ≡ true → forbidden west c g h ≡ vertical g && not (west c)
   unfolding forbidden same letter
-  from-vertical E h v = true-false v refl
-  from-vertical N h v = refl
-  from-vertical S h v = refl
-  from-vertical W h v = true-false v refl
+  to-west g E v = true-false v refl
+  to-west g N v = true-false v refl
+  to-west g S v = true-false v refl
+  to-west E W v = refl
+  to-west N W v = refl
+  to-west S W v = refl
+  to-west W W v = refl
 
-  pub from-level : (g h : Heading) → vertical g ≡ false → forbidden west c g h ≡ same g E && (vertical h && west c)
+  -- to E: never
+  pub to-east : (g h : Heading) → same h E ≡ true → forbidden west c g h ≡ false
   unfolding forbidden same letter
-  from-level E h v = refl
-  from-level N h v = true-false refl v
-  from-level S h v = true-false refl v
-  from-level W h v = refl
+  to-east E E v = refl
+  to-east N E v = refl
+  to-east S E v = refl
+  to-east W E v = refl
+  to-east g N v = true-false v refl
+  to-east g S v = true-false v refl
+  to-east g W v = true-false v refl
+
+  -- to N and S: after E
+  pub to-vertical : (g h : Heading) → same h W ≡ false → same h E ≡ false → forbidden west c g h ≡ same g E && west c
+  unfolding forbidden same letter
+  to-vertical g E v u = true-false refl u
+  to-vertical E N v u = refl
+  to-vertical N N v u = refl
+  to-vertical S N v u = refl
+  to-vertical W N v u = refl
+  to-vertical E S v u = refl
+  to-vertical N S v u = refl
+  to-vertical S S v u = refl
+  to-vertical W S v u = refl
+  to-vertical g W v u = true-false refl v

@@ -39,16 +39,17 @@ fn is_forbidden(before: Heading, after: Heading, c: Column) -> bool
     ensures { λ x. ⌜ x ≡ forbidden turnsWest (c .0) before after ⌝ }
 {
     let even = c.0 % 2 == 0;
-    if is_vertical(before) {
-        if is_same(after, Heading::West) {
+    if is_same(after, Heading::West) {
+        if is_vertical(before) {
             return !even;
         }
         return false;
     }
+    if is_same(after, Heading::East) {
+        return false;
+    }
     if is_same(before, Heading::East) {
-        if is_vertical(after) {
-            return even;
-        }
+        return even;
     }
     false
 }
