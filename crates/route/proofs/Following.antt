@@ -1,6 +1,6 @@
 -- A leg of the two modes, and where they end. Assumes nothing.
 use mathlib.Core.Path.{_≡_, refl, sym, _∙_}
-use mathlib.Core.Bool.{true, false, _||_}
+use mathlib.Core.Bool.{true, false}
 use mathlib.Core.List.{List, _∷_}
 use Prim.Native.Nat.{ℕ, zero, suc, _+_, _-_, _≤_, _<_}
 use native.Mathlib.Nat.{add-zero, sub-zero}
@@ -20,7 +20,7 @@ use Rattle.buffers.specs.Over.{over}
 use Rattle.buffers.proofs.Over.{over-length}
 use Rattle.maps.specs.Sized.{Sized}
 use Rattle.rules.specs.Rows.{inItsRow, nearsRow}
-use Rattle.travel.specs.Straight.{after, Runs}
+use Rattle.travel.specs.Straight.{goesStraight, after, Runs}
 use Rattle.travel.proofs.Runs.{after-moved, runs-one}
 use Rattle.route.specs.Following.{hopLimit, Leads, Going, Follows}
 
@@ -136,7 +136,7 @@ after-some zero h p some = absurd (omega arith)
 after-some (suc n) h p some = sym (after-moved n h p)
 
 -- a hop round a block is a leg of one
-pub round-one : {w : Mesh} {p : Packet} {h : Heading} → inItsRow p || nearsRow p ≡ false → h ≡ otherRow (tripOf w p) (p .place .row .0) (p .place .column .0) (p .last) → Runs w h 1 p
+pub round-one : {w : Mesh} {p : Packet} {h : Heading} → goesStraight p ≡ false → h ≡ otherRow (tripOf w p) (p .place .row .0) (p .place .column .0) (p .last) → Runs w h 1 p
 unfolding inItsRow isThere hopFrom hopAt hop
 round-one {w} {p} {h} off is-h =
     let row = or-none (inItsRow p) (nearsRow p) off .0 in

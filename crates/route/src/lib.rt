@@ -2,7 +2,7 @@
 // destination's row (rule 2, not stopped) and in a column toward it (rule 5, the next node free). Where there is no such leg, at a stop,
 // before a block or with a turn yet to make, the packet goes round, hop by hop, until a hop leads into the destination's row or toward it.
 ghost use mathlib.Core.Path.{_≡_};
-ghost use mathlib.Core.Bool.{false, _||_};
+ghost use mathlib.Core.Bool.{false};
 ghost use lib.Dec.{leb};
 ghost use lib.ListN.{length, replicate};
 ghost use Rattle.mesh.specs.Mesh.{mesh, letter};
@@ -12,8 +12,8 @@ ghost use Rattle.mesh.specs.Operations.{Routes};
 ghost use Rattle.block_theory.specs.Obstacles.{Obstacles};
 ghost use Rattle.maps.specs.Sized.{Sized};
 ghost use Rattle.hops.specs.Moved.{movedBy, Lands};
-ghost use Rattle.rules.specs.Rows.{inItsRow, nearsRow};
 ghost use Rattle.buffers.specs.Over.{over};
+ghost use Rattle.travel.specs.Straight.{goesStraight};
 ghost use Rattle.route.specs.Following.{hopLimit, rest, Going, Follows};
 ghost use Rattle.route.specs.Marked.{RoutesOn};
 use buffers::fill;
@@ -92,7 +92,7 @@ fn round_block(
     begun: u32,
     limit: u32,
 ) -> u32
-    requires { ⌜ Going columns rows (now marks) packet begun limit × (inItsRow packet || nearsRow packet ≡ false) ⌝ }
+    requires { ⌜ Going columns rows (now marks) packet begun limit × (goesStraight packet ≡ false) ⌝ }
     ensures { λ x. ⌜ Follows (mesh columns rows (now (marks .entry))) packet (now (out .entry)) begun limit x (now (out .exit)) ⌝ }
 {
     let mut p = packet;

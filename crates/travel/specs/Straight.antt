@@ -1,6 +1,6 @@
 -- What a leg is: hops by the rules that are all the same. Assumes nothing.
 use mathlib.Core.Path.{_≡_}
-use mathlib.Core.Bool.{true, false}
+use mathlib.Core.Bool.{Bool, true, false, _||_}
 use mathlib.Core.List.{List}
 use Prim.Native.Nat.{ℕ, zero, suc, _<_}
 use Rattle.mesh.specs.declared.Heading.{Heading}
@@ -10,6 +10,11 @@ use Rattle.mesh.specs.Hops.{stopped}
 use Rattle.mesh.specs.Packets.{tripOf, isThere, movedPacket}
 use Rattle.mesh.specs.Moving.{hopFrom}
 use Rattle.maps.specs.Sized.{Sized}
+use Rattle.rules.specs.Rows.{inItsRow, nearsRow}
+
+-- the packet travels straight from here: it is in its destination's row, or its last hop leads toward that row
+abbrev pub goesStraight : Packet → Bool
+goesStraight p = inItsRow p || nearsRow p
 
 -- the packet and its destination are on the mesh
 pub record OnMesh (columns rows : ℕ) (marks : List ℕ) (p : Packet) : Type 0 where

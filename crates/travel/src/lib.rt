@@ -1,13 +1,13 @@
 // Legs: the hops that straight travel repeats, found by a look along the row or the column.
 ghost use mathlib.Core.Path.{_≡_};
-ghost use mathlib.Core.Bool.{true, false, _||_};
+ghost use mathlib.Core.Bool.{true, false};
 ghost use Prim.Native.Nat.{_≤_};
 ghost use Rattle.mesh.specs.Mesh.{mesh};
 ghost use Rattle.mesh.specs.Hops.{side};
 ghost use Rattle.mesh.specs.Walk.{distance};
 ghost use Rattle.mesh.specs.Packets.{tripOf, isThere};
 ghost use Rattle.rules.specs.Rows.{inItsRow, nearsRow};
-ghost use Rattle.travel.specs.Straight.{OnMesh, Runs, Unstopped};
+ghost use Rattle.travel.specs.Straight.{goesStraight, OnMesh, Runs, Unstopped};
 use hops::count_free;
 use hops::moved_by;
 use mesh::Heading;
@@ -37,7 +37,7 @@ fn distance(a: u32, b: u32) -> u32
 
 // Whether the packet travels straight from here: along its destination's row, or in a column toward it.
 pub fn is_straight(p: Packet) -> bool
-    ensures { λ x. ⌜ x ≡ inItsRow p || nearsRow p ⌝ }
+    ensures { λ x. ⌜ x ≡ goesStraight p ⌝ }
 {
     if is_in_row(p) {
         return true;
@@ -96,9 +96,9 @@ fn column_leg(columns: u32, rows: u32, marks: &[u8], p: Packet) -> Leg
     }
 }
 
-// The next leg of straight travel: at least one hop. Where it is the only one the packet may travel straight no more.
+// The next leg of straight travel: at least one hop. Where neither rule leads on, it is the one hop off the way.
 pub fn next_leg(columns: u32, rows: u32, marks: &[u8], p: Packet) -> Leg
-    requires { ⌜ OnMesh columns rows (now marks) p × (inItsRow p || nearsRow p ≡ true) × (isThere p ≡ false) ⌝ }
+    requires { ⌜ OnMesh columns rows (now marks) p × (goesStraight p ≡ true) × (isThere p ≡ false) ⌝ }
     ensures { λ x. ⌜ (1 ≤ x .hops) × Runs (mesh columns rows (now (marks .entry))) (x .heading) (x .hops) p ⌝ }
 {
     if is_in_row(p) {

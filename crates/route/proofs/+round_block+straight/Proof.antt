@@ -1,7 +1,7 @@
 -- The two modes: one walk, leg by leg. What falls is the hop limit less the hops made, counted twice and one more in straight travel, which
 -- may hand over at once. Assumes nothing.
 use mathlib.Core.Path.{_≡_, sym, _∙_}
-use mathlib.Core.Bool.{false, _||_}
+use mathlib.Core.Bool.{false}
 use Prim.Native.Nat.{ℕ, _<_, _+_, _*_}
 use native.Mathlib.Omega.{arith}
 use borrow.Author.Tests.{not-true, not-false}
@@ -11,6 +11,7 @@ use Rattle.mesh.proofs.Bools.{or-none}
 use Rattle.hops.proofs.is_there.Reads as is-there-reads
 use Rattle.rules.proofs.go_round.Reads as go-round-reads
 use Rattle.rules.specs.Rows.{inItsRow, nearsRow}
+use Rattle.travel.specs.Straight.{goesStraight}
 use Rattle.travel.proofs.is_straight.Reads as is-straight-reads
 use Rattle.travel.proofs.next_leg.Reads as next-leg-reads
 use Rattle.route.proofs.Following.{follows-there, going-on-mesh, Along, along-none, round-one, along-few, along-lands, along-leg}
@@ -53,7 +54,7 @@ abbrev straight-callees : ℕ → straight-lts.Claims
 straight-callees t = (is-there-reads.Asked, is-there-reads.Learnt, is-straight-reads.Asked, is-straight-reads.Learnt, round-block-below t, round-block.Post, next-leg-reads.Asked, next-leg-reads.Learnt, advance-reads.Asked, advance-reads.Learnt)
 
 abbrev round-block-Inv-loop : round-block-lts.InvT-loop
-round-block-Inv-loop columns rows marks out₀ begun limit p₀ made₀ left₀ out p made left = Along columns rows marks p₀ out₀ begun limit p out made left × (inItsRow p || nearsRow p ≡ false)
+round-block-Inv-loop columns rows marks out₀ begun limit p₀ made₀ left₀ out p made left = Along columns rows marks p₀ out₀ begun limit p out made left × (goesStraight p ≡ false)
 
 abbrev round-block-μ-loop : round-block-lts.MeasureT-loop
 round-block-μ-loop columns rows marks out₀ begun limit p₀ made₀ left₀ out p made left = left
