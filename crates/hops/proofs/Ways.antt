@@ -1,24 +1,18 @@
 -- n hops one way are one hop after another, and the nodes on the way. Assumes nothing.
-use mathlib.Core.Path.{_≡_, refl, sym, ap, _∙_}
+use mathlib.Core.Path.{_≡_, refl, sym, _∙_}
 use mathlib.Core.Bool.{Bool, true, false, and-false}
 use Prim.Native.Nat.{ℕ, suc, _+_, _≤_, _<_}
 use native.Mathlib.Omega.{arith}
 use native.Mathlib.Decide.{decLt}
-use borrow.Author.Tests.{eq-eqb, le-leb}
+use borrow.Author.Tests.{le-leb}
 use Rattle.mesh.specs.declared.Heading.{Heading}
 use Rattle.mesh.specs.declared.Heading.the-variants.{East as E, North as N, South as S, West as W}
 use Rattle.mesh.specs.declared.Packet.{Packet}
-use Rattle.mesh.specs.Mesh.{rowAfter, columnAfter, letter, same}
+use Rattle.mesh.specs.Mesh.{rowAfter, columnAfter}
 use Rattle.mesh.specs.Blocks.{ahead}
 use Rattle.mesh.specs.Walk.{moved}
 use Rattle.mesh.specs.Packets.{movedPacket}
-use Rattle.mesh.proofs.Bools.{true-false}
 use Rattle.hops.specs.Moved.{rowBy, columnBy, movedBy, Lands, Reaches, Free}
-
--- two headings that are not the same
-pub differ : {A : Type 0} (g h : Heading) → same g h ≡ false → g ≡ h → A
-unfolding same
-differ g h f e = true-false (eq-eqb (letter g) (letter h) (ap letter e)) f
 
 pub row-none : (h : Heading) (r : ℕ) → rowBy h 0 r ≡ r
 unfolding rowBy

@@ -1,4 +1,4 @@
-// A sheet, read byte by byte.
+// A sheet, read in pieces of any size.
 ghost use mathlib.Core.Path.{_≡_};
 ghost use mathlib.Core.Bool.{false};
 ghost use Prim.Native.Nat.{ℕ, _+_, _≤_};

@@ -1,6 +1,4 @@
-// The operation "Route". A route is followed in two modes that hand over to each other. Straight travel goes leg by leg: along the
-// destination's row (rule 2, not stopped) and in a column toward it (rule 5, the next node free). Where there is no such leg, at a stop,
-// before a block or with a turn yet to make, the packet goes round, hop by hop, until a hop leads into the destination's row or toward it.
+// The operation "Route". A route is followed in two modes that hand over to each other.
 ghost use mathlib.Core.Path.{_≡_};
 ghost use mathlib.Core.Bool.{false};
 ghost use lib.Dec.{leb};

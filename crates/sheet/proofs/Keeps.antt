@@ -14,7 +14,7 @@ use Rattle.sheets.specs.Room.{answerRoom}
 use Rattle.reader.specs.declared.Reader.{Reader as Held}
 use Rattle.reader.specs.declared.Taken.{Taken}
 use Rattle.reader.specs.Reader.{Reader, begun, feedAll}
-use Rattle.reader.specs.Reading.{readerOf, Reading, TakesBytes, Finishing, Begins}
+use Rattle.reader.specs.Reading.{readerOf, Reading, TakesBytes, Begins}
 use Rattle.reader.proofs.Progress.{progresses}
 use Rattle.reader.proofs.Theorems.{over-rests, feed-chunks}
 use Rattle.sheet.specs.declared.Read.{Read}
@@ -109,7 +109,3 @@ module _ {r : Held} {hold map marks : List ℕ} (g : Going r hold map marks) (x 
     going-less =
         let size = length-take-le (x .came) chunk (n .within) in
         progresses (g .reading) (n .answers .reading) (g .on) (not-true (x .reader .over) (some .1 .0)) (take (x .came) chunk) (omega (arith, size, ltb-true 0 (x .came) (some .0))) (n .answers .fed (some .1 .1))
-
--- the end can be told
-pub finishing : {r : Held} {hold map marks : List ℕ} → Reading r hold map marks → Finishing r map marks
-finishing g = record { short = g .short; few = g .few; ready = g .ready }

@@ -7,13 +7,32 @@ use native.Mathlib.Decide.{decLt}
 use native.Mathlib.Omega.{arith}
 use borrow.Author.Tests.{lt-ltb, le-ltb, ne-eqb}
 use lib.Dec.{ltb, eqb}
+use Rattle.mesh.specs.declared.Heading.{Heading}
 use Rattle.mesh.specs.declared.Heading.the-variants.{East as E, North as N, South as S, West as W}
-use Rattle.mesh.specs.Mesh.{letter, same}
 use Rattle.mesh.specs.Hops.{Trip, side, toward}
 use Rattle.mesh.specs.Walk.{distance}
 use Rattle.mesh.proofs.Bools.{value}
 use Rattle.hops.specs.Moved.{rowBy, columnBy, Reaches}
-use Rattle.hops.proofs.Ways.{differ}
+
+-- n hops that way stay on the mesh
+Fits : Heading → ℕ → ℕ → ℕ → ℕ → ℕ → Type 0
+Fits E columns rows n r c = c + n < columns
+Fits N columns rows n r c = r + n < rows
+Fits S columns rows n r c = n ≤ r
+Fits W columns rows n r c = n ≤ c
+
+reaches : {columns rows : ℕ} (h : Heading) {n r c : ℕ} → r < rows → c < columns → n < 64 → Fits h columns rows n r c → Reaches columns rows h n r c
+unfolding Fits
+reaches h p q few fits =
+    record {
+      row = p;
+      column = q;
+      east = λ e. rw e at fits;
+      north = λ e. rw e at fits;
+      south = λ e. rw e at fits;
+      west = λ e. rw e at fits;
+      hops = few;
+    }
 
 -- i nearer to b than a is
 nearer : ℕ → ℕ → ℕ → ℕ
@@ -45,31 +64,11 @@ module _ (t : Trip) (c : ℕ) {n : ℕ} (most : n ≤ distance c (t .C)) where
       rw (side-nearer t c i, still) (refl, apart)
 
   pub side-reaches : {columns rows : ℕ} (r : ℕ) → r < rows → c < columns → t .C < columns → columns ≤ 64 → Reaches columns rows (side t c) n r c
-  unfolding side distance same letter
+  unfolding side distance Fits
   side-reaches r p q d few =
       elim (decLt c (t .C)) [
-        | yes h ↦
-            rw (lt-ltb c (t .C) h)
-            (record {
-              row = p;
-              column = q;
-              east = λ e. omega arith;
-              hops = omega arith;
-              north = differ E N refl;
-              south = differ E S refl;
-              west = differ E W refl;
-            })
-        | no h ↦
-            rw (le-ltb c (t .C) (omega arith))
-            (record {
-              row = p;
-              column = q;
-              west = λ e. omega arith;
-              hops = omega arith;
-              east = differ W E refl;
-              north = differ W N refl;
-              south = differ W S refl;
-            })
+        | yes h ↦ rw (lt-ltb c (t .C) h) (reaches E p q (omega arith) (omega arith))
+        | no h ↦ rw (le-ltb c (t .C) (omega arith)) (reaches W p q (omega arith) (omega arith))
       ]
 
 pub side-row : (t : Trip) (c i r : ℕ) → rowBy (side t c) i r ≡ r
@@ -85,29 +84,9 @@ module _ (t : Trip) (r : ℕ) {n : ℕ} (most : n ≤ distance r (t .R)) where
       rw (toward-nearer t r i, still) (refl, apart)
 
   pub toward-reaches : {columns rows : ℕ} (c : ℕ) → r < rows → c < columns → t .R < rows → rows ≤ 64 → Reaches columns rows (toward t r) n r c
-  unfolding toward distance same letter
+  unfolding toward distance Fits
   toward-reaches c p q d few =
       elim (decLt r (t .R)) [
-        | yes h ↦
-            rw (lt-ltb r (t .R) h)
-            (record {
-              row = p;
-              column = q;
-              north = λ e. omega arith;
-              hops = omega arith;
-              east = differ N E refl;
-              south = differ N S refl;
-              west = differ N W refl;
-            })
-        | no h ↦
-            rw (le-ltb r (t .R) (omega arith))
-            (record {
-              row = p;
-              column = q;
-              south = λ e. omega arith;
-              hops = omega arith;
-              east = differ S E refl;
-              north = differ S N refl;
-              west = differ S W refl;
-            })
+        | yes h ↦ rw (lt-ltb r (t .R) h) (reaches N p q (omega arith) (omega arith))
+        | no h ↦ rw (le-ltb r (t .R) (omega arith)) (reaches S p q (omega arith) (omega arith))
       ]
