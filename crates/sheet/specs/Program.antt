@@ -25,12 +25,12 @@ pub record Reads (r : Reader) (x : Read) (chunk hold map marks : List ℕ) : Typ
 unfoldable pub goesOn : Read → Bool
 goesOn x = ltb 0 (x .came) && (not (x .reader .over) && x .written)
 
--- a reader that was fed these bytes from the start
+-- a reader that was fed these bytes from the start; which bytes came no contract can say
 pub record FedFromStart (r : Reader) : Type 0 where
   pub bytes : List ℕ
   pub fed : r ≡ feedAll begun bytes .next
 
--- reading stops only where it does not go on; the reader was then fed all bytes that came, unless a write failed
+-- reading stops only where it does not go on; unless a write failed, the reader was then fed bytes from the start, read by read (`Reads`)
 pub record ReadsAll (x : Read) (hold map marks : List ℕ) : Type 0 where
   pub stops : goesOn x ≡ false
   pub fed : x .written ≡ true → FedFromStart (readerOf (x .reader) hold map)
