@@ -7,17 +7,20 @@ use borrow.Author.Tests.{not-true, not-false}
 use Rattle.mesh.specs.declared.Heading.{Heading}
 use Rattle.mesh.specs.declared.Heading.the-variants.{East as E, North as N, South as S, West as W}
 use Rattle.mesh.specs.declared.Letter.the-variants.{Hop}
-use Rattle.mesh.specs.declared.Fault.{Fault}
-use Rattle.mesh.specs.declared.Fault.the-variants.{LeavesMesh, Reverses, ForbiddenTurn, EntersBlock}
+use Rattle.mesh.specs.declared.Mistake.{Mistake}
+use Rattle.mesh.specs.declared.Mistake.the-variants.{LeavesMesh, Reverses, ForbiddenTurn, EntersBlock}
 use Rattle.mesh.specs.declared.Tested.the-variants.{Lawful, Wrong}
 use Rattle.mesh.specs.declared.Packet.{Packet}
-use Rattle.mesh.specs.Mesh.{Mesh, rowAfter, columnAfter}
-use Rattle.mesh.specs.Blocks.{bad, ahead}
-use Rattle.mesh.specs.Turns.{turnsWest, turnsBack, turnsWrong}
-use Rattle.mesh.specs.Hops.{blocked}
-use Rattle.mesh.specs.Walk.{moved, stays}
-use Rattle.mesh.specs.Packets.{at, tripOf, movedPacket}
-use Rattle.mesh.specs.Judging.{faultNumber, testedNumber, letterFault}
+use Rattle.mesh.specs.Mesh.{Mesh}
+use Rattle.mesh.specs.Headings.{rowAfter, columnAfter}
+use Rattle.mesh.specs.Parity.{turnsWest}
+use Rattle.mesh.specs.Tests.{first}
+use Rattle.mesh.specs.Numbers.{mistakeNumber, testedNumber}
+use Rattle.mesh.specs.Nodes.{bad, ahead}
+use Rattle.mesh.specs.Turns.{turnsBack, turnsWrong}
+use Rattle.mesh.specs.Rules.{blocked}
+use Rattle.mesh.specs.Hops.{moved, stays, at, tripOf, movedPacket}
+use Rattle.mesh.specs.Judging.{hopTests, letterMistake}
 use Rattle.hops.specs.Tests.{Tests}
 
 -- the node ahead is where a hop that stays on the mesh leads
@@ -29,13 +32,12 @@ ahead-after B columns rows r c S s = rw s
 ahead-after B columns rows r c W s = rw s
 
 module _ (w : Mesh) (p : Packet) (h : Heading) where
-  wrong : (f : Fault) → faultNumber f ≡ letterFault (tripOf w p) (at p) (Hop h) → Tests w p h (Wrong f)
-  unfolding testedNumber
-  wrong f e = record { told = e; onward = λ q. let z : _≡_ {A = ℕ} 0 1 = cc in absurd (omega (arith, z)) }
+  wrong : (m : Mistake) → mistakeNumber m ≡ letterMistake (tripOf w p) (at p) (Hop h) → Tests w p h (Wrong m)
+  wrong m e = record { told = e; onward = λ q. let z : _≡_ {A = ℕ} 0 1 = cc in absurd (omega (arith, z)) }
 
   module _ {s : Bool} (is-s : s ≡ stays (w .columns) (w .rows) h (p .place .row .0) (p .place .column .0)) where
     pub leaves : not s ≡ true → Tests w p h (Wrong LeavesMesh)
-    unfolding faultNumber letterFault
+    unfolding letterMistake hopTests first
     leaves e = wrong LeavesMesh (rw (← is-s, not-true s e))
 
     module _ (on : not s ≡ false) {b : Bool} (is-b : b ≡ turnsBack (p .last) h) where
@@ -43,12 +45,12 @@ module _ (w : Mesh) (p : Packet) (h : Heading) where
       on-mesh = sym is-s ∙ not-false s on
 
       pub turns-back : b ≡ true → Tests w p h (Wrong Reverses)
-      unfolding faultNumber letterFault
+      unfolding letterMistake hopTests first
       turns-back e = wrong Reverses (rw (on-mesh, ← is-b, e))
 
       module _ (ahead : b ≡ false) {t : Bool} (is-t : t ≡ turnsWrong turnsWest (p .place .column .0) (p .last) h) where
         pub turns-wrong : t ≡ true → Tests w p h (Wrong ForbiddenTurn)
-        unfolding faultNumber letterFault
+        unfolding letterMistake hopTests first
         turns-wrong e = wrong ForbiddenTurn (rw (on-mesh, ← is-b, ahead, ← is-t, e))
 
         module _ (may : t ≡ false) {q : Packet} (is-q : q ≡ movedPacket h p) {x : Bool} (is-x : x ≡ bad w (q .place .row .0) (q .place .column .0)) where
@@ -58,11 +60,11 @@ module _ (w : Mesh) (p : Packet) (h : Heading) where
               is-x ∙ rw is-q (sym (ahead-after (bad w) (w .columns) (w .rows) (p .place .row .0) (p .place .column .0) h on-mesh))
 
           pub enters : x ≡ true → Tests w p h (Wrong EntersBlock)
-          unfolding faultNumber letterFault
+          unfolding letterMistake hopTests first
           enters e = wrong EntersBlock (rw (on-mesh, ← is-b, ahead, ← is-t, may, ← is-blocked, e))
 
           pub passes : x ≡ false → Tests w p h (Lawful q)
-          unfolding testedNumber letterFault
+          unfolding letterMistake hopTests first
           passes e =
               record {
                 told = rw (on-mesh, ← is-b, ahead, ← is-t, may, ← is-blocked, e);

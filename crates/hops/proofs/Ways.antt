@@ -8,10 +8,9 @@ use borrow.Author.Tests.{le-leb}
 use Rattle.mesh.specs.declared.Heading.{Heading}
 use Rattle.mesh.specs.declared.Heading.the-variants.{East as E, North as N, South as S, West as W}
 use Rattle.mesh.specs.declared.Packet.{Packet}
-use Rattle.mesh.specs.Mesh.{rowAfter, columnAfter}
-use Rattle.mesh.specs.Blocks.{ahead}
-use Rattle.mesh.specs.Walk.{moved}
-use Rattle.mesh.specs.Packets.{movedPacket}
+use Rattle.mesh.specs.Headings.{rowAfter, columnAfter}
+use Rattle.mesh.specs.Nodes.{ahead}
+use Rattle.mesh.specs.Hops.{moved, movedPacket}
 use Rattle.hops.specs.Moved.{rowBy, columnBy, movedBy, Lands, Reaches, Free}
 
 pub row-none : (h : Heading) (r : ℕ) → rowBy h 0 r ≡ r

@@ -6,7 +6,7 @@ use Rattle.mesh.specs.declared.Heading.{Heading}
 use Rattle.mesh.specs.declared.Heading.the-variants.{East as E, North as N, South as S, West as W}
 use Rattle.mesh.specs.declared.Last.the-variants.{Made as made}
 use Rattle.mesh.specs.declared.Packet.{Packet}
-use Rattle.mesh.specs.Packets.{packetAt}
+use Rattle.mesh.specs.Hops.{packetAt}
 
 -- n times the next node that way
 unfoldable pub rowBy : Heading → ℕ → ℕ → ℕ

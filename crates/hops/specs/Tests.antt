@@ -6,10 +6,11 @@ use Rattle.mesh.specs.declared.Packet.{Packet}
 use Rattle.mesh.specs.declared.Tested.{Tested}
 use Rattle.mesh.specs.declared.Tested.the-variants.{Lawful}
 use Rattle.mesh.specs.Mesh.{Mesh}
-use Rattle.mesh.specs.Packets.{at, tripOf, movedPacket}
-use Rattle.mesh.specs.Judging.{testedNumber, letterFault}
+use Rattle.mesh.specs.Numbers.{testedNumber}
+use Rattle.mesh.specs.Hops.{at, tripOf, movedPacket}
+use Rattle.mesh.specs.Judging.{letterMistake}
 
 -- what is wrong with it, and after a lawful hop the packet
 pub record Tests (w : Mesh) (p : Packet) (h : Heading) (x : Tested) : Type 0 where
-  pub told : testedNumber x ≡ letterFault (tripOf w p) (at p) (Hop h)
+  pub told : testedNumber x ≡ letterMistake (tripOf w p) (at p) (Hop h)
   pub onward : {after : Packet} → x ≡ Lawful after → after ≡ movedPacket h p

@@ -3,21 +3,20 @@ ghost use mathlib.Core.Path.{_≡_};
 ghost use Prim.Native.Nat.{_≤_, _<_};
 ghost use Rattle.mesh.specs.declared.Heading.the-variants.{South, West};
 ghost use Rattle.mesh.specs.Mesh.{mesh};
-ghost use Rattle.mesh.specs.Blocks.{bad};
-ghost use Rattle.mesh.specs.Walk.{stays};
-ghost use Rattle.mesh.specs.Packets.{isThere};
-ghost use Rattle.maps.specs.Sized.{Sized};
+ghost use Rattle.mesh.specs.Nodes.{bad};
+ghost use Rattle.mesh.specs.Hops.{stays, isThere};
+ghost use Rattle.nodes.specs.Sized.{Sized, OnMesh};
 ghost use Rattle.hops.specs.Moved.{rowBy, columnBy, movedBy, Lands, Reaches, Free};
 ghost use Rattle.hops.specs.Tests.{Tests};
-use maps::is_bad_node;
 use mesh::Column;
-use mesh::Fault;
 use mesh::Heading;
 use mesh::Last;
+use mesh::Mistake;
 use mesh::Packet;
 use mesh::Place;
 use mesh::Row;
 use mesh::Tested;
+use nodes::is_bad_node;
 use turns::turns_back;
 use turns::turns_wrong;
 
@@ -96,24 +95,24 @@ pub fn count_free(columns: u32, rows: u32, marks: &[u8], s: Place, h: Heading, n
 
 // What is wrong with a hop, tested in the order of the numbers.
 pub fn test_hop(columns: u32, rows: u32, marks: &[u8], p: Packet, h: Heading) -> Tested
-    requires { ⌜ Sized columns rows (now marks) × (p .place .row .0 < rows) × (p .place .column .0 < columns) ⌝ }
+    requires { ⌜ OnMesh columns rows (now marks) (p .place .row .0) (p .place .column .0) ⌝ }
     ensures { λ x. ⌜ Tests (mesh columns rows (now (marks .entry))) p h x ⌝ }
 {
     let r = p.place.row;
     let c = p.place.column;
     let l = p.last;
     if !stays(columns, rows, r, c, h) {
-        return Tested::Wrong(Fault::LeavesMesh);
+        return Tested::Wrong(Mistake::LeavesMesh);
     }
     let after = moved_by(p, h, 1);
     if turns_back(l, h) {
-        return Tested::Wrong(Fault::Reverses);
+        return Tested::Wrong(Mistake::Reverses);
     }
     if turns_wrong(l, h, c) {
-        return Tested::Wrong(Fault::ForbiddenTurn);
+        return Tested::Wrong(Mistake::ForbiddenTurn);
     }
     if is_bad_node(columns, rows, marks, after.place.row, after.place.column) {
-        return Tested::Wrong(Fault::EntersBlock);
+        return Tested::Wrong(Mistake::EntersBlock);
     }
     Tested::Lawful(after)
 }

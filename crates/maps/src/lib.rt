@@ -1,33 +1,14 @@
-// Fault maps: refusals 1 to 5, which every operation tests first, and looking up the bad nodes of a map or a marking.
+// Fault maps: refusals 1 to 5, which every operation tests first.
 ghost use mathlib.Core.Path.{_≡_};
 ghost use Prim.Native.Nat.{_*_, _≤_, _<_};
-ghost use Rattle.mesh.specs.Mesh.{mesh};
-ghost use Rattle.mesh.specs.Blocks.{bad, ahead, allowed};
-ghost use Rattle.mesh.specs.Refusals.{badSize, badLength, badByte, misplacedAt, misplaced, mapRefusals, number, checkedNumber};
-ghost use Rattle.maps.specs.Sized.{Sized};
+ghost use Rattle.mesh.specs.Tests.{first};
+ghost use Rattle.mesh.specs.Numbers.{checkedNumber};
+ghost use Rattle.mesh.specs.Maps.{badSize, badLength, badByte, allowed, misplacedAt, misplaced, mapTests};
+ghost use Rattle.nodes.specs.Sized.{Sized};
 use mesh::Checked;
 use mesh::Column;
-use mesh::Heading;
 use mesh::Refusal;
 use mesh::Row;
-
-// The number of a refusal.
-pub fn refusal_number(why: Refusal) -> u32
-    ensures { λ x. ⌜ x ≡ number why ⌝ }
-{
-    match why {
-        Refusal::Columns => return 1,
-        Refusal::Rows => return 2,
-        Refusal::MapLength => return 3,
-        Refusal::MapByte => return 4,
-        Refusal::FaultPlace => return 5,
-        Refusal::OffMesh => return 6,
-        Refusal::InBlock => return 7,
-        Refusal::OnRing => return 8,
-        Refusal::Unlawful => return 9,
-        Refusal::Room => return 10,
-    }
-}
 
 // Refusals 1 and 2.
 pub fn is_bad_size(n: u32) -> bool
@@ -110,7 +91,7 @@ pub fn has_misplaced(columns: u32, rows: u32, map: &[u8]) -> bool
 
 // Refusals 1 to 5, in this order.
 pub fn check_map(columns: u32, rows: u32, map: &[u8]) -> Checked
-    ensures { λ x. ⌜ checkedNumber x ≡ mapRefusals columns rows (now (map .entry)) 0 ⌝ }
+    ensures { λ x. ⌜ checkedNumber x ≡ first (mapTests columns rows (now (map .entry))) ⌝ }
 {
     if is_bad_size(columns) {
         return Checked::Refused(Refusal::Columns);
@@ -128,64 +109,4 @@ pub fn check_map(columns: u32, rows: u32, map: &[u8]) -> Checked
         return Checked::Refused(Refusal::FaultPlace);
     }
     Checked::Clear
-}
-
-// Whether the node is bad.
-pub fn is_bad_node(columns: u32, rows: u32, map: &[u8], r: Row, c: Column) -> bool
-    requires { ⌜ Sized columns rows (now map) × (r .0 < rows) × (c .0 < columns) ⌝ }
-    ensures { λ x. ⌜ x ≡ bad (mesh columns rows (now (map .entry))) (r .0) (c .0) ⌝ }
-{
-    let at = r.0 * columns + c.0;
-    map[at as usize] != 0
-}
-
-// Whether the place is a bad node. Places beyond the mesh never are.
-pub fn is_bad(columns: u32, rows: u32, map: &[u8], r: Row, c: Column) -> bool
-    requires { ⌜ Sized columns rows (now map) ⌝ }
-    ensures { λ x. ⌜ x ≡ bad (mesh columns rows (now (map .entry))) (r .0) (c .0) ⌝ }
-{
-    if rows <= r.0 {
-        return false;
-    }
-    if columns <= c.0 {
-        return false;
-    }
-    is_bad_node(columns, rows, map, r, c)
-}
-
-// Whether the node k hops that way is bad.
-pub fn is_bad_ahead(
-    columns: u32,
-    rows: u32,
-    map: &[u8],
-    r: Row,
-    c: Column,
-    h: Heading,
-    k: u32,
-) -> bool
-    requires { ⌜ Sized columns rows (now map) × (r .0 < 64) × (c .0 < 64) × (k < 64) ⌝ }
-    ensures { λ x. ⌜ x ≡ ahead (bad (mesh columns rows (now (map .entry)))) h k (r .0) (c .0) ⌝ }
-{
-    let row = r.0;
-    let column = c.0;
-    match h {
-        Heading::East => {
-            return is_bad(columns, rows, map, r, Column(column + k));
-        }
-        Heading::North => {
-            return is_bad(columns, rows, map, Row(row + k), c);
-        }
-        Heading::South => {
-            if row < k {
-                return false;
-            }
-            return is_bad(columns, rows, map, Row(row - k), c);
-        }
-        Heading::West => {
-            if column < k {
-                return false;
-            }
-            return is_bad(columns, rows, map, r, Column(column - k));
-        }
-    }
 }

@@ -1,10 +1,9 @@
 pub mod Bools
-pub mod Index
-pub mod Turns
-pub mod Some
-pub mod Numbers
-pub mod Firsts
-pub mod Refusals
-pub mod Requests
-pub mod Answers
 pub mod Lists
+pub mod Index
+pub mod Parity
+pub mod Numbers
+pub mod Tests
+pub mod Some
+pub mod Maps
+pub mod Requests

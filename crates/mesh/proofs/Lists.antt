@@ -5,8 +5,8 @@ use mathlib.Core.List.{List, [], _∷_}
 use Prim.Native.Nat.{ℕ, suc}
 use borrow.Author.Tests.{eq-eqb, eqb-true}
 use lib.ListN.{length}
-use Rattle.mesh.specs.Mesh.{Heading, letters}
-use Rattle.mesh.specs.Blocks.{sameList}
+use Rattle.mesh.specs.Headings.{Heading, letters}
+use Rattle.mesh.specs.Rounds.{sameList}
 use Rattle.mesh.proofs.Bools.{and-both}
 
 pub same-eq : (xs ys : List ℕ) → sameList xs ys ≡ true → xs ≡ ys

@@ -1,16 +1,15 @@
--- The numbers of refusals and faults are from 1 to 10 and from 1 on. Assumes nothing.
+-- The numbers of refusals are 1 to 10, no mistake has number 0; what a refusal answers and writes. Assumes nothing.
 use mathlib.Core.Path.{_≡_, refl}
-use Prim.Native.Nat.{suc, pred, _≤_}
+use mathlib.Core.List.{List}
+use Prim.Native.Nat.{ℕ, suc, pred, _≤_}
 use native.Mathlib.Omega.{arith}
 use Rattle.mesh.specs.declared.Refusal.{Refusal}
 use Rattle.mesh.specs.declared.Refusal.the-variants.{Columns, Rows, MapLength, MapByte, FaultPlace, OffMesh, InBlock, OnRing, Unlawful, Room}
-use Rattle.mesh.specs.declared.Fault.{Fault}
-use Rattle.mesh.specs.declared.Fault.the-variants.{NoLetter, LeavesMesh, Reverses, ForbiddenTurn, EntersBlock, NotArrived}
-use Rattle.mesh.specs.Refusals.{number}
-use Rattle.mesh.specs.Judging.{faultNumber}
+use Rattle.mesh.specs.declared.Mistake.{Mistake}
+use Rattle.mesh.specs.declared.Mistake.the-variants.{NoLetter, LeavesMesh, Reverses, ForbiddenTurn, EntersBlock, NotArrived}
+use Rattle.mesh.specs.Numbers.{number, mistakeNumber, refused, answer, written}
 
 pub number-some : (why : Refusal) → number why ≡ suc (pred (number why))
-unfolding number
 number-some Columns = refl
 number-some Rows = refl
 number-some MapLength = refl
@@ -23,7 +22,6 @@ number-some Unlawful = refl
 number-some Room = refl
 
 pub number-few : (why : Refusal) → number why ≤ 10
-unfolding number
 number-few Columns = omega arith
 number-few Rows = omega arith
 number-few MapLength = omega arith
@@ -35,11 +33,18 @@ number-few OnRing = omega arith
 number-few Unlawful = omega arith
 number-few Room = omega arith
 
-pub fault-some : (f : Fault) → faultNumber f ≡ suc (pred (faultNumber f))
-unfolding faultNumber
-fault-some NoLetter = refl
-fault-some LeavesMesh = refl
-fault-some Reverses = refl
-fault-some ForbiddenTurn = refl
-fault-some EntersBlock = refl
-fault-some NotArrived = refl
+pub mistake-some : (m : Mistake) → mistakeNumber m ≡ suc (pred (mistakeNumber m))
+mistake-some NoLetter = refl
+mistake-some LeavesMesh = refl
+mistake-some Reverses = refl
+mistake-some ForbiddenTurn = refl
+mistake-some EntersBlock = refl
+mistake-some NotArrived = refl
+
+pub answer-refused : (why : Refusal) (n : ℕ) → answer (number why) n ≡ refused (number why)
+unfolding answer
+answer-refused why n = rw (number-some why)
+
+pub written-refused : (why : Refusal) (new old : List ℕ) → written (number why) new old ≡ old
+unfolding written
+written-refused why new old = rw (number-some why)

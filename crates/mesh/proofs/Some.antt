@@ -8,7 +8,7 @@ use native.Mathlib.Numerals.{add-one}
 use native.Mathlib.Omega.{arith}
 use lib.ListN.{length, getD, drop, drop-of-length-le}
 use lib.Seq.{drop-cons}
-use Rattle.mesh.specs.Refusals.{some}
+use Rattle.mesh.specs.Maps.{some}
 use Rattle.mesh.proofs.Bools.{or-none}
 
 pub none-passes : (t : ℕ → ℕ → Bool) (i : ℕ) (xs : List ℕ) → some t i xs ≡ false → (j : ℕ) → j < length xs → t (i + j) (getD xs j 0) ≡ false

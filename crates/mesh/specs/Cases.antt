@@ -7,14 +7,21 @@ use Prim.Native.String.{String}
 use Prim.Native.Char.{code}
 use lib.Dec.{T, eqb}
 use lib.ListN.{set, replicate}
+use Rattle.mesh.specs.Mesh as places
+use Rattle.mesh.specs.Mesh.{mesh, onMesh}
 use Rattle.mesh.specs.declared.Place.{Place}
-use Rattle.mesh.specs.Mesh.{mesh, onMesh, rowAfter, columnAfter, letter, letters}
-use Rattle.mesh.specs.Blocks.{isBad, bad, ahead, upright, ruleA, ruleB, unsafe, become, advance, round, sameList, settle, marked, Block, run, corner, blockAt, select, blocks, reaches, onRing, onSomeRing, allowed}
-use Rattle.mesh.specs.Turns.{turnsWest}
-use Rattle.mesh.specs.Hops.{blocked, side, toward, own, stopped, again, atDestination, inRow, leaving, across, nearing, otherRow, hop}
-use Rattle.mesh.specs.Walk.{moved, arrived, hopAt, walk, shutIn, distance, detours, bound}
-use Rattle.mesh.specs.Refusals.{badSize, badLength, some, badByte, misplacedAt, misplaced, offMesh, inBlock, onARing, unserved, mapRefusals, placeRefusals, requestRefusals}
-use Rattle.mesh.specs.Operations.{hopsOf, routeRefusal}
+use Rattle.mesh.specs.Headings.{rowAfter, columnAfter, letters}
+use Rattle.mesh.specs.Parity.{turnsWest}
+use Rattle.mesh.specs.Tests.{first}
+use Rattle.mesh.specs.Nodes.{isBad, bad, ahead, upright, ruleA, ruleB, unsafe}
+use Rattle.mesh.specs.Rounds.{become, advance, round, sameList, settle, marked}
+use Rattle.mesh.specs.Blocks.{Block, run, corner, blockAt, select, blocks, reaches, onRing, onSomeRing}
+use Rattle.mesh.specs.Rules.{blocked, side, toward, own, stopped, again, atDestination, inRow, leaving, across, nearing, otherRow, hop}
+use Rattle.mesh.specs.Hops.{moved}
+use Rattle.mesh.specs.Walk.{arrived, hopAt, walk, shutIn, distance, detours, bound}
+use Rattle.mesh.specs.Maps.{badSize, badLength, some, badByte, allowed, misplacedAt, misplaced, mapTests}
+use Rattle.mesh.specs.Requests.{offMesh, inBlock, onARing, unserved, placeTests, tripTests, requestTests}
+use Rattle.mesh.specs.Routing.{hopsOf, sendTests, routeRefusal}
 
 -- faults by row and column, (r, c), and the map that they make
 abbrev pub faultMap : List (ℕ × ℕ) → List ℕ
@@ -38,7 +45,7 @@ bytes Text.[] = []
 bytes (Text._∷_ c s) = code c ∷ bytes s
 
 abbrev pub place : ℕ × ℕ → Place
-place p = record { row = record { 0 = p .0 }; column = record { 0 = p .1 } }
+place p = places.place (p .0) (p .1)
 
 -- room for 100 letters
 unfoldable pub refusal : List (ℕ × ℕ) → ℕ × ℕ → ℕ × ℕ → ℕ
@@ -80,5 +87,5 @@ starred =
     []
 
 pub starred-hold : T (allHold starred)
-unfolding starred allHold holds A B C refusal bytes edges onMesh isBad bad ahead upright ruleA ruleB unsafe become advance round sameList settle run corner blockAt select blocks reaches onRing onSomeRing allowed turnsWest blocked side toward own stopped again atDestination inRow leaving across nearing otherRow hop rowAfter columnAfter letter letters moved arrived hopAt walk shutIn distance detours bound badSize badLength some badByte misplacedAt misplaced offMesh inBlock onARing unserved mapRefusals placeRefusals requestRefusals hopsOf routeRefusal
+unfolding starred allHold holds A B C refusal bytes edges onMesh rowAfter columnAfter letters turnsWest first isBad bad ahead upright ruleA ruleB unsafe become advance round sameList settle run corner blockAt select blocks reaches onRing onSomeRing blocked side toward own stopped again atDestination inRow leaving across nearing otherRow hop moved arrived hopAt walk shutIn distance detours bound badSize badLength some badByte allowed misplacedAt misplaced mapTests offMesh inBlock onARing unserved placeTests tripTests requestTests hopsOf sendTests routeRefusal
 starred-hold = tt

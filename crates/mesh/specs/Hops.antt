@@ -1,79 +1,59 @@
--- The hop rules (document 01, "The hop rules"), over any account of the bad nodes and either parity. The packet is at (r, c), its last hop is l.
+-- A hop: the place that it leads to, whether it is lawful, and the packet's record after it (document 01, "Turns", "What demand 3 compares").
 -- Assumes nothing.
-use mathlib.Core.Bool.{Bool, false, not, cond, _&&_, _||_}
-use Prim.Native.Nat.{ℕ}
-use lib.Dec.{ltb, eqb}
-use Rattle.mesh.specs.Mesh.{Heading, E, N, S, W, Last, none, made}
-use Rattle.mesh.specs.Blocks.{ahead}
+use mathlib.Core.Bool.{Bool, not, _&&_}
+use Prim.Native.Nat.{ℕ, _+_}
+use lib.Dec.{leb, ltb, eqb}
+use Rattle.mesh.specs.declared.Packet.{Packet}
+use Rattle.mesh.specs.declared.Place.{Place}
+use Rattle.mesh.specs.Mesh.{Mesh, place}
+use Rattle.mesh.specs.Headings.{Heading, E, N, S, W, Last, none, made, rowAfter, columnAfter}
+use Rattle.mesh.specs.Turns.{mayTurn}
+use Rattle.mesh.specs.Rules.{Trip, tripOn, blocked}
 
--- what the rules look at besides the packet: the mesh, its bad nodes, the columns that permit NW and SW, and the destination (R, C)
-pub record Trip : Type 0 where
-  pub columns : ℕ
-  pub rows : ℕ
-  pub bad : ℕ → ℕ → Bool
-  pub west : ℕ → Bool
-  pub R : ℕ
-  pub C : ℕ
+-- where a packet is, and its last hop
+pub record At : Type 0 where
+  pub row : ℕ
+  pub column : ℕ
+  pub last : Last
 
--- the node k hops that way is in a block; none beyond the mesh is
-unfoldable pub blocked : Trip → Heading → ℕ → ℕ → ℕ → Bool
-blocked w h k r c = ahead (w .bad) h k r c
+-- at the source: no hop is made yet
+abbrev pub fresh : Place → At
+fresh s = record { row = s .row .0; column = s .column .0; last = none }
 
--- side: E if C > c, else W
-unfoldable pub side : Trip → ℕ → Heading
-side w c = cond (ltb c (w .C)) E W
+-- the place becomes the next node that way, and that hop is the last hop
+unfoldable pub moved : Heading → At → At
+moved h p = record { row = rowAfter h (p .row); column = columnAfter h (p .column); last = made h }
 
--- toward: the vertical direction to row R
-unfoldable pub toward : Trip → ℕ → Heading
-toward w r = cond (ltb r (w .R)) N S
+-- a hop that way stays on the mesh
+unfoldable pub stays : ℕ → ℕ → Heading → ℕ → ℕ → Bool
+stays columns rows E r c = ltb (c + 1) columns
+stays columns rows N r c = ltb (r + 1) rows
+stays columns rows S r c = leb 1 r
+stays columns rows W r c = leb 1 c
 
--- the columns of a side's own turns, EN and ES or NW and SW: odd for E, even for W
-unfoldable pub own : Trip → Heading → ℕ → Bool
-own w E c = not (w .west c)
-own w N c = false
-own w S c = false
-own w W c = w .west c
+-- lawful: the hop stays on the mesh, enters no block, is no reversal and no forbidden turn
+unfoldable pub lawful : Trip → At → Heading → Bool
+lawful t p h =
+    stays (t .columns) (t .rows) h (p .row) (p .column) && (not (blocked t h 1 (p .row) (p .column)) && mayTurn (t .west) (p .column) (p .last) h)
 
--- stopped: the next node to the side is in a block; or the second one is, and c is odd (side E) or even (side W)
-unfoldable pub stopped : Trip → ℕ → ℕ → Bool
-stopped w r c = blocked w (side w c) 1 r c || (own w (side w c) c && blocked w (side w c) 2 r c)
+-- The packet's record.
 
--- repeat the last hop if it was N or S, else N
-unfoldable pub again : Last → Heading
-again none = N
-again (made E) = N
-again (made N) = N
-again (made S) = S
-again (made W) = N
+-- where it is, and its last hop
+abbrev pub at : Packet → At
+at p = record { row = p .place .row .0; column = p .place .column .0; last = p .last }
 
--- rule 1: at the destination
-unfoldable pub atDestination : Trip → ℕ → ℕ → Bool
-atDestination w r c = eqb r (w .R) && eqb c (w .C)
+-- its trip on a marked mesh
+abbrev pub tripOf : Mesh → Packet → Trip
+tripOf w p = tripOn w (p .destination)
 
--- rule 2, r = R: not stopped, hop to the side; stopped, repeat the last hop if it was N or S, else hop N
-unfoldable pub inRow : Trip → ℕ → ℕ → Last → Heading
-inRow w r c l = cond (stopped w r c) (again l) (side w c)
+-- it is at its destination
+unfoldable pub isThere : Packet → Bool
+isThere p =
+    eqb (p .place .row .0) (p .destination .row .0) && eqb (p .place .column .0) (p .destination .column .0)
 
--- rule 3, last hop h leading away from R: stopped, repeat it; else hop to the side
-unfoldable pub leaving : Trip → ℕ → ℕ → Heading → Heading
-leaving w r c h = cond (stopped w r c) h (side w c)
+abbrev pub packetAt : At → Place → Packet
+packetAt a d = record { place = place (a .row) (a .column); last = a .last; destination = d }
 
--- rules 4 (s is E) and 6 (s is W): hop toward if c is odd (4) or even (6) and that node isn't in a block; else s
-unfoldable pub across : Trip → ℕ → ℕ → Heading → Heading
-across w r c s = cond (own w s c && not (blocked w (toward w r) 1 r c)) (toward w r) s
-
--- rule 5, last hop h leading toward R: repeat it if that node isn't in a block; else W
-unfoldable pub nearing : Trip → ℕ → ℕ → Heading → Heading
-nearing w r c h = cond (blocked w h 1 r c) W h
-
--- rules 3 to 6, by the last hop
-unfoldable pub otherRow : Trip → ℕ → ℕ → Last → Heading
-otherRow w r c none = across w r c W
-otherRow w r c (made E) = across w r c E
-otherRow w r c (made N) = cond (ltb r (w .R)) (nearing w r c N) (leaving w r c N)
-otherRow w r c (made S) = cond (ltb r (w .R)) (leaving w r c S) (nearing w r c S)
-otherRow w r c (made W) = across w r c W
-
--- the hop by the rules, where rule 1 does not apply
-unfoldable pub hop : Trip → ℕ → ℕ → Last → Heading
-hop w r c l = cond (eqb r (w .R)) (inRow w r c l) (otherRow w r c l)
+-- the record after a hop
+abbrev pub movedPacket : Heading → Packet → Packet
+movedPacket h p = packetAt (moved h (at p)) (p .destination)

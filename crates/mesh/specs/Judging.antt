@@ -1,51 +1,35 @@
--- Judging a hand-in (document 01, "Judge a hand-in"). Assumes nothing.
+-- Judge a hand-in (document 01, "The four operations"). Assumes nothing.
 use mathlib.Core.Bool.{not, cond}
-use mathlib.Core.List.{List, [], _∷_}
+use mathlib.Core.List.{List, [], _∷_, _++_}
 use Prim.Native.Nat.{ℕ, zero, suc}
-use lib.Dec.{eqb}
 use Rattle.mesh.specs.declared.Letter.{Letter}
 use Rattle.mesh.specs.declared.Letter.the-variants.{Hop, Other}
-use Rattle.mesh.specs.declared.Fault.{Fault}
-use Rattle.mesh.specs.declared.Fault.the-variants.{NoLetter, LeavesMesh, Reverses, ForbiddenTurn, EntersBlock, NotArrived}
-use Rattle.mesh.specs.declared.Tested.{Tested}
-use Rattle.mesh.specs.declared.Tested.the-variants.{Lawful, Wrong}
 use Rattle.mesh.specs.declared.Judged.{Judged}
-use Rattle.mesh.specs.declared.Judged.the-variants as judged
+use Rattle.mesh.specs.declared.Judged.the-variants.{Passed, Failed, Refused}
 use Rattle.mesh.specs.declared.Place.{Place}
-use Rattle.mesh.specs.Mesh.{mesh, E, N, S, W, letter}
-use Rattle.mesh.specs.Blocks.{marked}
+use Rattle.mesh.specs.Mesh.{Mesh, mesh}
+use Rattle.mesh.specs.Headings.{Heading, named}
+use Rattle.mesh.specs.Tests.{Test, _gives_, first}
+use Rattle.mesh.specs.Numbers.{number, mistakeNumber}
+use Rattle.mesh.specs.Rounds.{marked}
 use Rattle.mesh.specs.Turns.{turnsBack, turnsWrong}
-use Rattle.mesh.specs.Hops.{Trip, blocked}
-use Rattle.mesh.specs.Walk.{tripOn, At, fresh, moved, stays, arrived}
-use Rattle.mesh.specs.Refusals.{number, mapRefusals, placeRefusals}
+use Rattle.mesh.specs.Rules.{Trip, tripOn, blocked}
+use Rattle.mesh.specs.Hops.{At, fresh, moved, stays}
+use Rattle.mesh.specs.Walk.{arrived}
+use Rattle.mesh.specs.Maps.{mapTests}
+use Rattle.mesh.specs.Requests.{placeTests}
 
--- the number of each fault
-unfoldable pub faultNumber : Fault → ℕ
-faultNumber NoLetter = 11
-faultNumber LeavesMesh = 12
-faultNumber Reverses = 13
-faultNumber ForbiddenTurn = 14
-faultNumber EntersBlock = 15
-faultNumber NotArrived = 16
+-- 12 leaves the mesh; 13 reverses; 14 forbidden turn; 15 enters a block
+unfoldable pub hopTests : Trip → At → Heading → List Test
+hopTests t p h =
+    not (stays (t .columns) (t .rows) h (p .row) (p .column)) gives 12
+    ∷ turnsBack (p .last) h gives 13
+    ∷ turnsWrong (t .west) (p .column) (p .last) h gives 14 ∷ blocked t h 1 (p .row) (p .column) gives 15 ∷ []
 
--- 0 where nothing is wrong
-unfoldable pub testedNumber : Tested → ℕ
-testedNumber (Lawful p) = 0
-testedNumber (Wrong f) = faultNumber f
-
--- the hop that a byte names
-unfoldable pub named : ℕ → Letter
-named x =
-    cond (eqb x (letter E)) (Hop E)
-    (cond (eqb x (letter N)) (Hop N) (cond (eqb x (letter S)) (Hop S) (cond (eqb x (letter W)) (Hop W) Other)))
-
--- 11 not one of E, N, S, W; 12 leaves the mesh; 13 reverses; 14 forbidden turn; 15 enters a block; 0 none of these
-unfoldable pub letterFault : Trip → At → Letter → ℕ
-letterFault w p Other = 11
-letterFault w p (Hop h) =
-    cond (not (stays (w .columns) (w .rows) h (p .row) (p .column))) 12
-    (cond (turnsBack (p .last) h) 13
-    (cond (turnsWrong (w .west) (p .column) (p .last) h) 14 (cond (blocked w h 1 (p .row) (p .column)) 15 0)))
+-- what is wrong with a letter: 11 not one of E, N, S, W; 12 to 15; 0 nothing
+unfoldable pub letterMistake : Trip → At → Letter → ℕ
+letterMistake t p Other = 11
+letterMistake t p (Hop h) = first (hopTests t p h)
 
 -- the packet after a letter
 unfoldable pub follow : Letter → At → At
@@ -57,27 +41,40 @@ pub data Verdict : Type 0 where
   passed : ℕ → Verdict
   failed : ℕ → ℕ → Verdict
 
--- the fault of that number at index i, if it is not 0; else the verdict on the rest
+-- the mistake of that number at index i, if it is not 0; else the verdict on the rest
 unfoldable pub unless : ℕ → ℕ → Verdict → Verdict
 unless zero i rest = rest
 unless (suc k) i rest = failed (suc k) i
 
 -- the letters from index i on, in turn; after the last one 16 not at the destination
 unfoldable pub judge : Trip → At → ℕ → List ℕ → Verdict
-judge w p i [] = cond (arrived w p) (passed i) (failed 16 i)
-judge w p i (x ∷ xs) =
-    let rest = judge w (follow (named x) p) (suc i) xs in
-    unless (letterFault w p (named x)) i rest
+judge t p i [] = cond (arrived t p) (passed i) (failed 16 i)
+judge t p i (x ∷ xs) =
+    let rest = judge t (follow (named x) p) (suc i) xs in
+    unless (letterMistake t p (named x)) i rest
 
 -- the enum's cases as verdicts; a refusal has index 0
-unfoldable pub judgedVerdict : Judged → Verdict
-judgedVerdict (judged.Passed n) = passed n
-judgedVerdict (judged.Failed f i) = failed (faultNumber f) i
-judgedVerdict (judged.Refused r) = failed (number r) 0
+abbrev pub judgedVerdict : Judged → Verdict
+judgedVerdict (Passed n) = passed n
+judgedVerdict (Failed m i) = failed (mistakeNumber m) i
+judgedVerdict (Refused r) = failed (number r) 0
+
+-- a verdict in numbers: 0 passed, or the number of what is wrong
+abbrev pub verdictCode : Verdict → ℕ
+verdictCode (passed n) = 0
+verdictCode (failed k i) = k
+
+-- the length, or the index of what is wrong
+abbrev pub verdictIndex : Verdict → ℕ
+verdictIndex (passed n) = n
+verdictIndex (failed k i) = i
+
+-- on a marked mesh: the letters from the source on
+unfoldable pub judgeFrom : Mesh → Place → Place → List ℕ → Verdict
+judgeFrom w s d xs = judge (tripOn w d) (fresh s) 0 xs
 
 -- refusals 1 to 7, then the letters; a ring destination is allowed
 unfoldable pub judgement : ℕ → ℕ → List ℕ → Place → Place → List ℕ → Verdict
 judgement columns rows map s d xs =
     let w = marked (mesh columns rows map) in
-    unless (mapRefusals columns rows map (placeRefusals w s d 0)) 0
-    (judge (tripOn w (d .row .0) (d .column .0)) (fresh (s .row .0) (s .column .0)) 0 xs)
+    unless (first (mapTests columns rows map ++ placeTests w s d)) 0 (judgeFrom w s d xs)

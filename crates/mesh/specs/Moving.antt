@@ -1,16 +1,20 @@
--- Moving a packet on by one hop (document 01, "Move on"). Assumes nothing.
+-- Move on: a packet is moved by one hop (document 01, "The four operations"). Assumes nothing.
 use mathlib.Core.Path.{_≡_}
 use mathlib.Core.Bool.{Bool, not, cond, _&&_}
-use mathlib.Core.List.{List}
+use mathlib.Core.List.{List, _++_}
 use Prim.Native.Nat.{ℕ, zero, suc}
 use Rattle.mesh.specs.declared.Moved.{Moved}
-use Rattle.mesh.specs.declared.Moved.the-variants as moves
+use Rattle.mesh.specs.declared.Moved.the-variants.{Hop, Arrived, Refused}
 use Rattle.mesh.specs.declared.Packet.{Packet}
-use Rattle.mesh.specs.Mesh.{Mesh, mesh, Heading, letter}
-use Rattle.mesh.specs.Blocks.{marked}
-use Rattle.mesh.specs.Walk.{lawful, hopAt}
-use Rattle.mesh.specs.Packets.{at, tripOf, isThere, movedPacket}
-use Rattle.mesh.specs.Refusals.{number, mapRefusals, placeRefusals, onARing}
+use Rattle.mesh.specs.Mesh.{Mesh, mesh}
+use Rattle.mesh.specs.Headings.{Heading, letter}
+use Rattle.mesh.specs.Tests.{first}
+use Rattle.mesh.specs.Numbers.{number, refusalCode}
+use Rattle.mesh.specs.Rounds.{marked}
+use Rattle.mesh.specs.Hops.{lawful, at, tripOf, isThere, movedPacket}
+use Rattle.mesh.specs.Walk.{hopAt}
+use Rattle.mesh.specs.Maps.{mapTests}
+use Rattle.mesh.specs.Requests.{tripTests}
 
 -- an answer in the paper's terms: the letter, "arrived", or the number of a refusal
 pub data Told : Type 0 where
@@ -19,16 +23,22 @@ pub data Told : Type 0 where
   refused : ℕ → Told
 
 -- the enum's cases as answers
-unfoldable pub movedTold : Moved → Told
-movedTold (moves.Hop h) = hopped (letter h)
-movedTold moves.Arrived = there
-movedTold (moves.Refused r) = refused (number r)
+abbrev pub movedTold : Moved → Told
+movedTold (Hop h) = hopped (letter h)
+movedTold Arrived = there
+movedTold (Refused r) = refused (number r)
+
+-- an answer as one number: the letter, 0 arrived, or the refusal
+abbrev pub toldCode : Told → ℕ
+toldCode (hopped x) = x
+toldCode there = 0
+toldCode (refused k) = refusalCode k
 
 -- refusals 1 to 8 as for a route, the packet's place standing for the source
 unfoldable pub moveRefusal : ℕ → ℕ → List ℕ → Packet → ℕ
 moveRefusal columns rows map p =
     let w = marked (mesh columns rows map) in
-    mapRefusals columns rows map (placeRefusals w (p .place) (p .destination) (cond (onARing w (p .destination)) 8 0))
+    first (mapTests columns rows map ++ tripTests w (p .place) (p .destination))
 
 -- the hop by the rules from where the packet is, on a marked mesh
 unfoldable pub hopFrom : Mesh → Packet → Heading

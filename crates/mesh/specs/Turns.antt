@@ -1,15 +1,10 @@
 -- The turn rules (document 01, "Turns"). A turn is named by the hop before and the hop after; its column is that of the node between them.
--- Assumes nothing.
+-- The columns that permit NW and SW are left open: `west`. Assumes nothing.
 use mathlib.Core.Bool.{Bool, false, not, _&&_, _||_}
-use Prim.Native.Nat.{ℕ, _%_}
-use lib.Dec.{eqb}
-use Rattle.mesh.specs.Mesh.{Heading, E, N, S, W, Last, none, made, opposite, same}
+use Prim.Native.Nat.{ℕ}
+use Rattle.mesh.specs.Headings.{Heading, E, N, S, W, Last, none, made, opposite, same}
 
--- The columns in which NW and SW are permitted: the even ones. EN and ES are permitted in the others.
-unfoldable pub turnsWest : ℕ → Bool
-turnsWest c = eqb (c % 2) 0
-
--- with west for those columns: EN and ES are forbidden in them, NW and SW in the others, WN and WS nowhere
+-- EN and ES are forbidden in those columns, NW and SW in the others, WN and WS nowhere
 unfoldable pub forbidden : (ℕ → Bool) → ℕ → Heading → Heading → Bool
 forbidden west c E h = (same h N || same h S) && west c
 forbidden west c N h = same h W && not (west c)

@@ -57,7 +57,7 @@ pub enum Letter {
 }
 
 // What is wrong with a hand-in, in the order of their numbers (specs/Judging.antt): 11 to 16.
-pub enum Fault {
+pub enum Mistake {
     NoLetter,
     LeavesMesh,
     Reverses,
@@ -69,7 +69,7 @@ pub enum Fault {
 // Whether a hop is lawful, and the packet after it.
 pub enum Tested {
     Lawful(Packet),
-    Wrong(Fault),
+    Wrong(Mistake),
 }
 
 // What marking the blocks answers.
@@ -87,7 +87,7 @@ pub enum Routed {
 // What judging answers: the length, or what is wrong and the index of that letter.
 pub enum Judged {
     Passed(usize),
-    Failed(Fault, usize),
+    Failed(Mistake, usize),
     Refused(Refusal),
 }
 

@@ -1,4 +1,4 @@
-pub mod Rules
+pub mod Nodes
 pub mod Copy
 pub mod Settled
 pub mod Rows

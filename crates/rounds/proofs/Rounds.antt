@@ -7,10 +7,10 @@ use Prim.Native.Nat.{ℕ, _+_, _≤_, _<_}
 use native.Mathlib.Omega.{arith}
 use lib.ListN.{replicate, getD-replicate}
 use Rattle.mesh.specs.Mesh.{mesh}
-use Rattle.mesh.specs.Blocks.{marked}
+use Rattle.mesh.specs.Rounds.{marked}
 use Rattle.mesh.proofs.Bools.{true-false, value}
-use Rattle.block_theory.proofs.Marking.{round-length, safe, round-less, marked-round, marked-reached}
-use Rattle.maps.specs.Sized.{Sized}
+use Rattle.theory_blocks.proofs.Marking.{round-length, safe, round-less, marked-round, marked-reached}
+use Rattle.nodes.specs.Sized.{Sized}
 use Rattle.rounds.specs.Rounds.{Rounded, QuietSettled}
 use Rattle.rounds.proofs.Settled.{quiet-settled}
 

@@ -10,9 +10,10 @@ use borrow.Author.Tests.{le-ltb}
 use lib.ListN.{length, getD}
 use lib.Seq.{ext-getD}
 use Rattle.mesh.specs.Mesh.{Mesh, onMesh}
-use Rattle.mesh.specs.Blocks.{bad, ahead, upright, ruleA, ruleB, unsafe, round, on}
+use Rattle.mesh.specs.Nodes.{bad, ahead, upright, ruleA, ruleB, unsafe}
+use Rattle.mesh.specs.Rounds.{round, on}
 use Rattle.mesh.proofs.Index.{index-row, index-column, index-within, place-of}
-use Rattle.block_theory.proofs.Marking.{getD-advance, round-length}
+use Rattle.theory_blocks.proofs.Marking.{getD-advance, round-length}
 use Rattle.rounds.specs.Rounds.{nodeAfter, Settled, Rounded, QuietSettled}
 
 -- The nodes of a round.

@@ -5,7 +5,8 @@ use mathlib.Core.List.{List}
 use Prim.Native.Nat.{ℕ, _+_, _-_, _*_, _≤_, _<_}
 use lib.ListN.{length, getD}
 use Rattle.mesh.specs.Mesh.{Mesh}
-use Rattle.mesh.specs.Blocks.{bad, unsafe, become, round}
+use Rattle.mesh.specs.Nodes.{bad, unsafe}
+use Rattle.mesh.specs.Rounds.{become, round}
 
 -- what the node at (r, c) becomes in a round
 unfoldable pub nodeAfter : Mesh → ℕ → ℕ → ℕ

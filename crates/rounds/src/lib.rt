@@ -3,53 +3,17 @@ ghost use mathlib.Core.Path.{_≡_};
 ghost use Prim.Native.Nat.{_≤_, _<_};
 ghost use lib.ListN.{length};
 ghost use Rattle.mesh.specs.Mesh.{mesh};
-ghost use Rattle.mesh.specs.Blocks.{bad, upright, unsafe, marked};
-ghost use Rattle.maps.specs.Sized.{Sized};
+ghost use Rattle.mesh.specs.Nodes.{bad, upright, unsafe};
+ghost use Rattle.mesh.specs.Rounds.{marked};
+ghost use Rattle.nodes.specs.Sized.{Sized, OnMesh};
 ghost use Rattle.rounds.specs.Rounds.{nodeAfter, RowAfter, DueAfter, Copied, RowCopied, OthersSettled, Rounded, Near, Spread, QuietSettled};
-use maps::is_bad_ahead;
 use mesh::Column;
-use mesh::Heading;
 use mesh::Row;
-
-// Whether the north or south neighbour is bad.
-fn is_upright(columns: u32, rows: u32, map: &[u8], r: Row, c: Column) -> bool
-    requires { ⌜ Sized columns rows (now map) × (r .0 < 64) × (c .0 < 64) ⌝ }
-    ensures { λ x. ⌜ x ≡ upright (bad (mesh columns rows (now (map .entry)))) (r .0) (c .0) ⌝ }
-{
-    if is_bad_ahead(columns, rows, map, r, c, Heading::North, 1) {
-        return true;
-    }
-    is_bad_ahead(columns, rows, map, r, c, Heading::South, 1)
-}
-
-// Rules (a) and (b): whether the node becomes unsafe if it is sound.
-fn is_unsafe(columns: u32, rows: u32, map: &[u8], r: Row, c: Column) -> bool
-    requires { ⌜ Sized columns rows (now map) × (r .0 < 64) × (c .0 < 64) ⌝ }
-    ensures { λ x. ⌜ x ≡ unsafe (bad (mesh columns rows (now (map .entry)))) (r .0) (c .0) ⌝ }
-{
-    let e = is_bad_ahead(columns, rows, map, r, c, Heading::East, 1);
-    let w = is_bad_ahead(columns, rows, map, r, c, Heading::West, 1);
-    if is_upright(columns, rows, map, r, c) {
-        if e {
-            return true;
-        }
-        if w {
-            return true;
-        }
-        if is_bad_ahead(columns, rows, map, r, c, Heading::East, 2) {
-            return true;
-        }
-        return is_bad_ahead(columns, rows, map, r, c, Heading::West, 2);
-    }
-    if e {
-        return w;
-    }
-    false
-}
+use nodes::is_unsafe;
 
 // What the node becomes in a round.
 fn node(columns: u32, rows: u32, map: &[u8], r: Row, c: Column) -> u8
-    requires { ⌜ Sized columns rows (now map) × (r .0 < rows) × (c .0 < columns) ⌝ }
+    requires { ⌜ OnMesh columns rows (now map) (r .0) (c .0) ⌝ }
     ensures { λ x. ⌜ x ≡ nodeAfter (mesh columns rows (now (map .entry))) (r .0) (c .0) ⌝ }
 {
     let row = r.0;
@@ -202,8 +166,8 @@ fn round_in_place(
     copy_round(columns, rows, next, &due, changed, out)
 }
 
-// Rounds until nothing changes.
-fn settle(columns: u32, rows: u32, out: &mut [u8])
+// The marking of a fault map, in its place: rounds until nothing changes.
+pub fn settle(columns: u32, rows: u32, out: &mut [u8])
     requires { ⌜ Sized columns rows (now out) ⌝ }
     ensures { λ _. ⌜ now (out .exit) ≡ marked (mesh columns rows (now (out .entry))) .map ⌝ }
 {
@@ -215,7 +179,7 @@ fn settle(columns: u32, rows: u32, out: &mut [u8])
     }
 }
 
-// The marking of a fault map.
+// The marking of a fault map, in another.
 pub fn mark(columns: u32, rows: u32, map: &[u8], out: &mut [u8])
     requires { ⌜ Sized columns rows (now map) × (length (now out) ≡ length (now map)) ⌝ }
     ensures { λ _. ⌜ now (out .exit) ≡ marked (mesh columns rows (now (map .entry))) .map ⌝ }

@@ -9,23 +9,22 @@ use Rattle.mesh.specs.declared.Heading.{Heading}
 use Rattle.mesh.specs.declared.Heading.the-variants.{East as E, North as N, South as S, West as W}
 use Rattle.mesh.specs.declared.Last.{Last}
 use Rattle.mesh.specs.declared.Last.the-variants.{None as none, Made as made}
-use Rattle.mesh.specs.Mesh.{letter, same}
-use Rattle.mesh.specs.Blocks.{ahead}
-use Rattle.mesh.specs.Hops.{Trip, blocked, side, toward, own, stopped, again, leaving, across, nearing, otherRow}
-use Rattle.mesh.specs.Walk.{shutIn}
+use Rattle.mesh.specs.Headings.{letter, same}
+use Rattle.mesh.specs.Nodes.{ahead}
+use Rattle.mesh.specs.Rules.{Trip, blocked, side, toward, own, stopped, again, leaving, across, nearing, otherRow}
 use Rattle.mesh.proofs.Bools.{true-false, value}
 use Rattle.rules.specs.Rows.{lastIs}
 
 -- at a stop
 pub again-south : {l : Last} (h : Heading) {x : Bool} → l ≡ made h → x ≡ same h S → x ≡ true → S ≡ again l
-unfolding again same letter
-again-south E e q t = true-false t q
-again-south N e q t = true-false t q
-again-south S e q t = rw e
-again-south W e q t = true-false t q
+unfolding again same
+again-south E e q v = true-false v q
+again-south N e q v = true-false v q
+again-south S e q v = rw e
+again-south W e q v = true-false v q
 
 pub again-north : {l : Last} (h : Heading) {x : Bool} → l ≡ made h → x ≡ same h S → x ≡ false → N ≡ again l
-unfolding again same letter
+unfolding again same
 again-north E e q f = rw e
 again-north N e q f = rw e
 again-north S e q f = true-false q f
@@ -33,7 +32,7 @@ again-north W e q f = rw e
 
 -- headings that are the same hop
 same-is : (g h : Heading) → same g h ≡ true → g ≡ h
-unfolding same letter
+unfolding same
 same-is E E e = refl
 same-is E N e = true-false e refl
 same-is E S e = true-false e refl
@@ -64,71 +63,71 @@ unfolding lastIs
 last-made none h e = true-false e refl
 last-made (made g) h e = ap made (same-is g h e)
 
-module _ (w : Trip) (r c : ℕ) where
+module _ (t : Trip) (r c : ℕ) where
   -- stopped
-  module _ {s : Heading} (es : s ≡ side w c) {x : Bool} (ex : x ≡ ahead (w .bad) s 1 r c) where
-    pub stopped-next : x ≡ true → true ≡ stopped w r c
+  module _ {s : Heading} (es : s ≡ side t c) {x : Bool} (ex : x ≡ ahead (t .bad) s 1 r c) where
+    pub stopped-next : x ≡ true → true ≡ stopped t r c
     unfolding stopped blocked
-    stopped-next t = rw (← es, ← ex, t)
+    stopped-next v = rw (← es, ← ex, v)
 
-    module _ (f : x ≡ false) {y : Bool} (ey : y ≡ own w s c) where
-      pub stopped-not : not y ≡ true → false ≡ stopped w r c
+    module _ (f : x ≡ false) {y : Bool} (ey : y ≡ own t s c) where
+      pub stopped-not : not y ≡ true → false ≡ stopped t r c
       unfolding stopped blocked
       stopped-not n = rw (← es, ← ex, f, ← ey, not-true y n)
 
-      pub stopped-second : {z : Bool} → not y ≡ false → z ≡ ahead (w .bad) s 2 r c → z ≡ stopped w r c
+      pub stopped-second : {z : Bool} → not y ≡ false → z ≡ ahead (t .bad) s 2 r c → z ≡ stopped t r c
       unfolding stopped blocked
       stopped-second n ez = rw (← es, ← ex, f, ← ey, not-false y n) ez
 
   -- rule 3
-  pub leaving-stopped : (h : Heading) {x : Bool} → x ≡ stopped w r c → x ≡ true → h ≡ leaving w r c h
+  pub leaving-stopped : (h : Heading) {x : Bool} → x ≡ stopped t r c → x ≡ true → h ≡ leaving t r c h
   unfolding leaving
-  leaving-stopped h e t = rw (← e, t)
+  leaving-stopped h e v = rw (← e, v)
 
-  pub leaving-side : (h : Heading) {s : Heading} {x : Bool} → x ≡ stopped w r c → x ≡ false → s ≡ side w c → s ≡ leaving w r c h
+  pub leaving-side : (h : Heading) {s : Heading} {x : Bool} → x ≡ stopped t r c → x ≡ false → s ≡ side t c → s ≡ leaving t r c h
   unfolding leaving
   leaving-side h e f q = rw (← e, f) q
 
   -- rules 4 and 6
-  module _ (s : Heading) {x : Bool} (ex : x ≡ own w s c) where
-    pub across-other : not x ≡ true → s ≡ across w r c s
+  module _ (s : Heading) {x : Bool} (ex : x ≡ own t s c) where
+    pub across-other : not x ≡ true → s ≡ across t r c s
     unfolding across
     across-other n = rw (← ex, not-true x n)
 
-    module _ (n : not x ≡ false) {h : Heading} (eh : h ≡ toward w r) {y : Bool} (ey : y ≡ ahead (w .bad) h 1 r c) where
-      pub across-blocked : y ≡ true → s ≡ across w r c s
+    module _ (n : not x ≡ false) {h : Heading} (eh : h ≡ toward t r) {y : Bool} (ey : y ≡ ahead (t .bad) h 1 r c) where
+      pub across-blocked : y ≡ true → s ≡ across t r c s
       unfolding across blocked
-      across-blocked t = rw (← ex, not-false x n, ← eh, ← ey, t)
+      across-blocked v = rw (← ex, not-false x n, ← eh, ← ey, v)
 
-      pub across-toward : y ≡ false → h ≡ across w r c s
+      pub across-toward : y ≡ false → h ≡ across t r c s
       unfolding across blocked
       across-toward f = rw (← ex, not-false x n, ← eh, ← ey, f)
 
   -- rule 5
-  module _ (h : Heading) {x : Bool} (ex : x ≡ ahead (w .bad) h 1 r c) where
-    pub nearing-blocked : x ≡ true → W ≡ nearing w r c h
+  module _ (h : Heading) {x : Bool} (ex : x ≡ ahead (t .bad) h 1 r c) where
+    pub nearing-blocked : x ≡ true → W ≡ nearing t r c h
     unfolding nearing blocked
-    nearing-blocked t = rw (← ex, t)
+    nearing-blocked v = rw (← ex, v)
 
-    pub nearing-again : x ≡ false → h ≡ nearing w r c h
+    pub nearing-again : x ≡ false → h ≡ nearing t r c h
     unfolding nearing blocked
     nearing-again f = rw (← ex, f)
 
   -- rules 3 and 5: the last hop leads toward R exactly if it is that way
-  toward-or-away : (h : Heading) → same h N || same h S ≡ true → otherRow w r c (made h) ≡ cond (same h (toward w r)) (nearing w r c h) (leaving w r c h)
-  unfolding otherRow toward same letter
+  toward-or-away : (h : Heading) → same h N || same h S ≡ true → otherRow t r c (made h) ≡ cond (same h (toward t r)) (nearing t r c h) (leaving t r c h)
+  unfolding otherRow toward same
   toward-or-away E v = true-false v refl
-  toward-or-away N v = elim (value (ltb r (w .R))) [ inl e ↦ rw e | inr e ↦ rw e ]
-  toward-or-away S v = elim (value (ltb r (w .R))) [ inl e ↦ rw e | inr e ↦ rw e ]
+  toward-or-away N v = elim (value (ltb r (t .R))) [ inl e ↦ rw e | inr e ↦ rw e ]
+  toward-or-away S v = elim (value (ltb r (t .R))) [ inl e ↦ rw e | inr e ↦ rw e ]
   toward-or-away W v = true-false v refl
 
-  toward-upright : same (toward w r) N || same (toward w r) S ≡ true
-  unfolding toward same letter
-  toward-upright = elim (value (ltb r (w .R))) [ inl e ↦ rw e | inr e ↦ rw e ]
+  toward-upright : same (toward t r) N || same (toward t r) S ≡ true
+  unfolding toward same
+  toward-upright = elim (value (ltb r (t .R))) [ inl e ↦ rw e | inr e ↦ rw e ]
 
   -- rules 4 and 6
-  after-level : (h : Heading) → same h N || same h S ≡ false → otherRow w r c (made h) ≡ across w r c h
-  unfolding otherRow same letter
+  after-level : (h : Heading) → same h N || same h S ≡ false → otherRow t r c (made h) ≡ across t r c h
+  unfolding otherRow same
   after-level E f = refl
   after-level N f = true-false refl f
   after-level S f = true-false refl f
@@ -136,36 +135,17 @@ module _ (w : Trip) (r c : ℕ) where
 
   -- rules 3, 4 and 6, by the last hop, which does not lead toward R
   module _ (h : Heading) {l : Last} (el : l ≡ made h) {x : Bool} (ex : x ≡ same h N || same h S) {g : Heading} where
-    pub round-leaving : x ≡ true → lastIs l (toward w r) ≡ false → g ≡ leaving w r c h → g ≡ otherRow w r c l
+    pub round-leaving : x ≡ true → lastIs l (toward t r) ≡ false → g ≡ leaving t r c h → g ≡ otherRow t r c l
     unfolding lastIs
     round-leaving v f q =
-        let f′ : same h (toward w r) ≡ false = rw el at f in
+        let f′ : same h (toward t r) ≡ false = rw el at f in
         rw (el, toward-or-away h (sym ex ∙ v), f′) q
 
-    pub round-across : x ≡ false → g ≡ across w r c h → g ≡ otherRow w r c l
+    pub round-across : x ≡ false → g ≡ across t r c h → g ≡ otherRow t r c l
     round-across v q = rw (el, after-level h (sym ex ∙ v)) q
 
   -- rule 5, by the last hop
-  pub near-again : (l : Last) {t g : Heading} → t ≡ toward w r → lastIs l (toward w r) ≡ true → g ≡ nearing w r c t → g ≡ otherRow w r c l
-  near-again l et n q =
-      let t = toward w r in
-      rw (last-made l t n, toward-or-away t toward-upright, same-self t) (rw et at q)
-
-  -- refusal 9
-  module _ {x : Bool} (ex : x ≡ own w E c) where
-    pub served-column : not x ≡ true → false ≡ shutIn w r c
-    unfolding shutIn own
-    served-column n = rw (← ex, not-true x n)
-
-    module _ (n : not x ≡ false) {y : Bool} (ey : y ≡ ahead (w .bad) W 1 r c) where
-      pub served-open : not y ≡ true → false ≡ shutIn w r c
-      unfolding shutIn own blocked
-      served-open m = rw (← ex, not-false x n, ← ey, not-true y m)
-
-      pub shut-row : not y ≡ false → (r ≡ w .R → ⊥) → true ≡ shutIn w r c
-      unfolding shutIn own blocked
-      shut-row m d = rw (← ex, not-false x n, ← ey, not-false y m, ne-eqb r (w .R) d)
-
-      pub shut-west : not y ≡ false → r ≡ w .R → ltb (w .C) c ≡ shutIn w r c
-      unfolding shutIn own blocked
-      shut-west m d = rw (← ex, not-false x n, ← ey, not-false y m, eq-eqb r (w .R) d)
+  pub near-again : (l : Last) {h g : Heading} → h ≡ toward t r → lastIs l (toward t r) ≡ true → g ≡ nearing t r c h → g ≡ otherRow t r c l
+  near-again l eh n q =
+      let h = toward t r in
+      rw (last-made l h n, toward-or-away h toward-upright, same-self h) (rw eh at q)

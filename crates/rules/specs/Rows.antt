@@ -6,7 +6,7 @@ use Rattle.mesh.specs.declared.Heading.the-variants.{North as N, South as S}
 use Rattle.mesh.specs.declared.Last.{Last}
 use Rattle.mesh.specs.declared.Last.the-variants.{None as none, Made as made}
 use Rattle.mesh.specs.declared.Packet.{Packet}
-use Rattle.mesh.specs.Mesh.{same}
+use Rattle.mesh.specs.Headings.{same}
 
 -- the last hop was that way
 unfoldable pub lastIs : Last → Heading → Bool

@@ -1,28 +1,27 @@
-// The hop rules, and the condition that refusal 9 comes to.
+// The hop rules.
 ghost use mathlib.Core.Path.{_≡_};
 ghost use mathlib.Core.Bool.{false};
-ghost use Prim.Native.Nat.{ℕ, _<_};
 ghost use Rattle.mesh.specs.declared.Last.the-variants.{Made};
+ghost use Rattle.mesh.specs.declared.Place.{Place};
 ghost use Rattle.mesh.specs.Mesh.{Mesh, mesh};
-ghost use Rattle.mesh.specs.Hops.{side, toward, own, stopped, again, inRow, leaving, across, nearing, otherRow};
-ghost use Rattle.mesh.specs.Walk.{tripOn, hopAt};
-ghost use Rattle.mesh.specs.Packets.{at, tripOf};
-ghost use Rattle.mesh.specs.Refusals.{unserved};
-ghost use Rattle.maps.specs.Sized.{Sized};
+ghost use Rattle.mesh.specs.Rules.{Trip, tripOn, side, toward, own, stopped, again, inRow, leaving, across, nearing, otherRow};
+ghost use Rattle.mesh.specs.Hops.{at, tripOf};
+ghost use Rattle.mesh.specs.Walk.{hopAt};
+ghost use Rattle.nodes.specs.Sized.{OnMesh};
 ghost use Rattle.rules.specs.Rows.{lastIs, inItsRow, nearsRow};
-use maps::is_bad_ahead;
+use headings::is_same;
+use headings::is_vertical;
 use mesh::Column;
 use mesh::Heading;
 use mesh::Last;
 use mesh::Packet;
-use mesh::Place;
 use mesh::Row;
-use turns::is_same;
-use turns::is_vertical;
+use nodes::is_bad_ahead;
+use parity::turns_west;
 
 // The side of that column, from this one: E if it is greater, else W.
 pub fn side(from: Column, to: Column) -> Heading
-    ensures { λ x. ⌜ ((w : Mesh) (R : ℕ) → x ≡ side (tripOn w R (to .0)) (from .0)) ⌝ }
+    ensures { λ x. ⌜ ((t : Trip) → t .C ≡ to .0 → x ≡ side t (from .0)) ⌝ }
 {
     if from.0 < to.0 {
         return Heading::East;
@@ -32,7 +31,7 @@ pub fn side(from: Column, to: Column) -> Heading
 
 // The vertical direction from this row to that one.
 pub fn toward(from: Row, to: Row) -> Heading
-    ensures { λ x. ⌜ ((w : Mesh) (C : ℕ) → x ≡ toward (tripOn w (to .0) C) (from .0)) ⌝ }
+    ensures { λ x. ⌜ ((t : Trip) → t .R ≡ to .0 → x ≡ toward t (from .0)) ⌝ }
 {
     if from.0 < to.0 {
         return Heading::North;
@@ -40,22 +39,21 @@ pub fn toward(from: Row, to: Row) -> Heading
     Heading::South
 }
 
-// Whether this column permits a side's own turns, EN and ES or NW and SW: odd for E, even for W. Nothing else here knows which do.
+// Whether this column permits a side's own turns: EN and ES for E, NW and SW for W.
 fn is_own(s: Heading, c: Column) -> bool
-    ensures { λ x. ⌜ ((w : Mesh) (R C : ℕ) → x ≡ own (tripOn w R C) s (c .0)) ⌝ }
+    ensures { λ x. ⌜ ((w : Mesh) (d : Place) → x ≡ own (tripOn w d) s (c .0)) ⌝ }
 {
-    let even = c.0 % 2 == 0;
     match s {
-        Heading::East => return !even,
+        Heading::East => return !turns_west(c),
         Heading::North => return false,
         Heading::South => return false,
-        Heading::West => return even,
+        Heading::West => return turns_west(c),
     }
 }
 
 // Whether the packet is stopped: the next node to the side is in a block, or the second one is and the column permits the side's turns.
 pub fn is_stopped(columns: u32, rows: u32, marks: &[u8], p: Packet) -> bool
-    requires { ⌜ Sized columns rows (now marks) × (p .place .row .0 < 64) × (p .place .column .0 < 64) ⌝ }
+    requires { ⌜ OnMesh columns rows (now marks) (p .place .row .0) (p .place .column .0) ⌝ }
     ensures { λ x. ⌜ x ≡ stopped (tripOf (mesh columns rows (now (marks .entry))) p) (p .place .row .0) (p .place .column .0) ⌝ }
 {
     let r = p.place.row;
@@ -87,7 +85,7 @@ pub fn again(l: Last) -> Heading
 
 // Rule 3, where the last hop h leads away from the destination's row: stopped, it is repeated, else the hop is to the side.
 fn leaving(columns: u32, rows: u32, marks: &[u8], p: Packet, h: Heading) -> Heading
-    requires { ⌜ Sized columns rows (now marks) × (p .place .row .0 < 64) × (p .place .column .0 < 64) ⌝ }
+    requires { ⌜ OnMesh columns rows (now marks) (p .place .row .0) (p .place .column .0) ⌝ }
     ensures { λ x. ⌜ x ≡ leaving (tripOf (mesh columns rows (now (marks .entry))) p) (p .place .row .0) (p .place .column .0) h ⌝ }
 {
     if is_stopped(columns, rows, marks, p) {
@@ -98,7 +96,7 @@ fn leaving(columns: u32, rows: u32, marks: &[u8], p: Packet, h: Heading) -> Head
 
 // Rule 2, in the destination's row: as rule 3, with the hop that a stop asks for.
 fn in_row(columns: u32, rows: u32, marks: &[u8], p: Packet) -> Heading
-    requires { ⌜ Sized columns rows (now marks) × (p .place .row .0 < 64) × (p .place .column .0 < 64) ⌝ }
+    requires { ⌜ OnMesh columns rows (now marks) (p .place .row .0) (p .place .column .0) ⌝ }
     ensures { λ x. ⌜ x ≡ inRow (tripOf (mesh columns rows (now (marks .entry))) p) (p .place .row .0) (p .place .column .0) (p .last) ⌝ }
 {
     let l = p.last;
@@ -107,7 +105,7 @@ fn in_row(columns: u32, rows: u32, marks: &[u8], p: Packet) -> Heading
 
 // Rules 4 (s is E) and 6 (s is W): toward the destination's row if the column permits the turn and that node isn't in a block, else s.
 fn across(columns: u32, rows: u32, marks: &[u8], p: Packet, s: Heading) -> Heading
-    requires { ⌜ Sized columns rows (now marks) × (p .place .row .0 < 64) × (p .place .column .0 < 64) ⌝ }
+    requires { ⌜ OnMesh columns rows (now marks) (p .place .row .0) (p .place .column .0) ⌝ }
     ensures { λ x. ⌜ x ≡ across (tripOf (mesh columns rows (now (marks .entry))) p) (p .place .row .0) (p .place .column .0) s ⌝ }
 {
     let r = p.place.row;
@@ -124,7 +122,7 @@ fn across(columns: u32, rows: u32, marks: &[u8], p: Packet, s: Heading) -> Headi
 
 // Rule 5, where the last hop h leads toward the destination's row: it is repeated if that node isn't in a block, else W.
 fn nearing(columns: u32, rows: u32, marks: &[u8], p: Packet, h: Heading) -> Heading
-    requires { ⌜ Sized columns rows (now marks) × (p .place .row .0 < 64) × (p .place .column .0 < 64) ⌝ }
+    requires { ⌜ OnMesh columns rows (now marks) (p .place .row .0) (p .place .column .0) ⌝ }
     ensures { λ x. ⌜ x ≡ nearing (tripOf (mesh columns rows (now (marks .entry))) p) (p .place .row .0) (p .place .column .0) h ⌝ }
 {
     if is_bad_ahead(columns, rows, marks, p.place.row, p.place.column, h, 1) {
@@ -160,7 +158,7 @@ pub fn is_nearing(p: Packet) -> bool
 
 // Rules 3, 4 and 6, after hop h, which does not lead toward the destination's row.
 fn after(columns: u32, rows: u32, marks: &[u8], p: Packet, h: Heading) -> Heading
-    requires { ⌜ Sized columns rows (now marks) × (p .place .row .0 < 64) × (p .place .column .0 < 64) × (p .last ≡ Made h) × (nearsRow p ≡ false) ⌝ }
+    requires { ⌜ OnMesh columns rows (now marks) (p .place .row .0) (p .place .column .0) × (p .last ≡ Made h) × (nearsRow p ≡ false) ⌝ }
     ensures { λ x. ⌜ x ≡ otherRow (tripOf (mesh columns rows (now (marks .entry))) p) (p .place .row .0) (p .place .column .0) (p .last) ⌝ }
 {
     if is_vertical(h) {
@@ -171,7 +169,7 @@ fn after(columns: u32, rows: u32, marks: &[u8], p: Packet, h: Heading) -> Headin
 
 // Rules 3, 4 and 6: the last hop does not lead toward the destination's row.
 pub fn go_round(columns: u32, rows: u32, marks: &[u8], p: Packet) -> Heading
-    requires { ⌜ Sized columns rows (now marks) × (p .place .row .0 < 64) × (p .place .column .0 < 64) × (nearsRow p ≡ false) ⌝ }
+    requires { ⌜ OnMesh columns rows (now marks) (p .place .row .0) (p .place .column .0) × (nearsRow p ≡ false) ⌝ }
     ensures { λ x. ⌜ x ≡ otherRow (tripOf (mesh columns rows (now (marks .entry))) p) (p .place .row .0) (p .place .column .0) (p .last) ⌝ }
 {
     let l = p.last;
@@ -183,7 +181,7 @@ pub fn go_round(columns: u32, rows: u32, marks: &[u8], p: Packet) -> Heading
 
 // Rules 3 to 6, in another row than the destination's.
 fn other_row(columns: u32, rows: u32, marks: &[u8], p: Packet) -> Heading
-    requires { ⌜ Sized columns rows (now marks) × (p .place .row .0 < 64) × (p .place .column .0 < 64) ⌝ }
+    requires { ⌜ OnMesh columns rows (now marks) (p .place .row .0) (p .place .column .0) ⌝ }
     ensures { λ x. ⌜ x ≡ otherRow (tripOf (mesh columns rows (now (marks .entry))) p) (p .place .row .0) (p .place .column .0) (p .last) ⌝ }
 {
     if is_nearing(p) {
@@ -200,29 +198,11 @@ fn other_row(columns: u32, rows: u32, marks: &[u8], p: Packet) -> Heading
 
 // The hop by the rules, where the packet is not yet at its destination.
 pub fn hop(columns: u32, rows: u32, marks: &[u8], p: Packet) -> Heading
-    requires { ⌜ Sized columns rows (now marks) × (p .place .row .0 < 64) × (p .place .column .0 < 64) ⌝ }
+    requires { ⌜ OnMesh columns rows (now marks) (p .place .row .0) (p .place .column .0) ⌝ }
     ensures { λ x. ⌜ x ≡ hopAt (tripOf (mesh columns rows (now (marks .entry))) p) (at p) ⌝ }
 {
     if is_in_row(p) {
         return in_row(columns, rows, marks, p);
     }
     other_row(columns, rows, marks, p)
-}
-
-// What refusal 9 comes to: NW and SW are forbidden in the source's column, its west neighbour is in a block, and the destination is in
-// another row or to the west.
-pub fn is_unserved(columns: u32, rows: u32, marks: &[u8], s: Place, d: Place) -> bool
-    requires { ⌜ Sized columns rows (now marks) × (s .row .0 < 64) × (s .column .0 < 64) ⌝ }
-    ensures { λ x. ⌜ x ≡ unserved (mesh columns rows (now (marks .entry))) s d ⌝ }
-{
-    if !is_own(Heading::East, s.column) {
-        return false;
-    }
-    if !is_bad_ahead(columns, rows, marks, s.row, s.column, Heading::West, 1) {
-        return false;
-    }
-    if s.row.0 != d.row.0 {
-        return true;
-    }
-    d.column.0 < s.column.0
 }

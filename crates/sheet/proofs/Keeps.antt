@@ -10,13 +10,13 @@ use lib.Dec.{ltb}
 use lib.ListN.{length, take, drop, length-drop, take-append-drop}
 use lib.Seq.{take-all, length-take-le, take-take, take-add}
 use Rattle.mesh.proofs.Bools.{true-false, and-both}
-use Rattle.sheets.specs.Room.{answerRoom}
-use Rattle.reader.specs.declared.Reader.{Reader as Held}
-use Rattle.reader.specs.declared.Taken.{Taken}
-use Rattle.reader.specs.Reader.{Reader, begun, feedAll}
-use Rattle.reader.specs.Reading.{readerOf, Reading, TakesBytes, Begins}
-use Rattle.reader.proofs.Progress.{progresses}
-use Rattle.reader.proofs.Theorems.{over-rests, feed-chunks}
+use Rattle.sheet_lines.specs.Room.{answerRoom}
+use Rattle.sheet_reader.specs.declared.Reader.{Reader as Held}
+use Rattle.sheet_reader.specs.declared.Taken.{Taken}
+use Rattle.sheet_reader.specs.Reader.{Reader, begun, feedAll}
+use Rattle.sheet_reader.specs.Reading.{readerOf, Reading, TakesBytes, Begins}
+use Rattle.sheet_reader.proofs.Progress.{progresses}
+use Rattle.sheet_reader.proofs.Theorems.{over-rests, feed-chunks}
 use Rattle.sheet.specs.declared.Read.{Read}
 use Rattle.sheet.specs.Program.{Answers, Reads, goesOn, FedFromStart, ReadsAll}
 

@@ -6,9 +6,9 @@ use mathlib.Core.List.{List}
 use Prim.Native.Nat.{ℕ, _≤_}
 use lib.Dec.{ltb}
 use lib.ListN.{length, take}
-use Rattle.reader.specs.declared.Reader.{Reader as Held}
-use Rattle.reader.specs.Reader.{Reader, begun, feedAll}
-use Rattle.reader.specs.Reading.{readerOf, Reading}
+use Rattle.sheet_reader.specs.declared.Reader.{Reader as Held}
+use Rattle.sheet_reader.specs.Reader.{Reader, begun, feedAll}
+use Rattle.sheet_reader.specs.Reading.{readerOf, Reading}
 use Rattle.sheet.specs.declared.Read.{Read}
 
 -- bytes are answered: all of them are fed, unless a write failed

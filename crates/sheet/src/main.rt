@@ -2,18 +2,18 @@
 ghost use mathlib.Core.Path.{_≡_};
 ghost use Prim.Native.Nat.{_≤_};
 ghost use lib.ListN.{length};
-ghost use Rattle.walk_theory.specs.Claims.{mostHops};
-ghost use Rattle.sheets.specs.Room.{answerRoom};
-ghost use Rattle.reader.specs.Reading.{readerOf, Reading, TakesBytes, Finishing};
+ghost use Rattle.theory_walk.specs.Claims.{mostHops};
+ghost use Rattle.sheet_lines.specs.Room.{answerRoom};
+ghost use Rattle.sheet_reader.specs.Reading.{readerOf, Reading, TakesBytes, Finishing};
 ghost use Rattle.sheet.specs.Program.{Answers, Reads, goesOn, ReadsAll};
 use libc::STDERR_FILENO;
 use libc::STDIN_FILENO;
 use libc::STDOUT_FILENO;
-use reader::Reader;
-use reader::Taken;
-use reader::begin;
-use reader::finish;
-use reader::take_bytes;
+use sheet_reader::Reader;
+use sheet_reader::Taken;
+use sheet_reader::begin;
+use sheet_reader::finish;
+use sheet_reader::take_bytes;
 
 // Some bytes taken, and whether their answers could be written.
 struct Part {

@@ -13,17 +13,18 @@ use Rattle.mesh.specs.declared.Last.{Last}
 use Rattle.mesh.specs.declared.Last.the-variants.{Made as made}
 use Rattle.mesh.specs.declared.Packet.{Packet}
 use Rattle.mesh.specs.Mesh.{Mesh, mesh}
-use Rattle.mesh.specs.Blocks.{bad}
-use Rattle.mesh.specs.Hops.{Trip, blocked, side, toward, stopped, again, inRow, nearing, otherRow, hop}
-use Rattle.mesh.specs.Walk.{moved, hopAt, distance}
-use Rattle.mesh.specs.Packets.{tripOf, packetAt, isThere, movedPacket}
+use Rattle.mesh.specs.Nodes.{bad}
+use Rattle.mesh.specs.Rules.{Trip, blocked, side, toward, stopped, again, inRow, nearing, otherRow, hop}
+use Rattle.mesh.specs.Hops.{moved, tripOf, packetAt, isThere, movedPacket}
+use Rattle.mesh.specs.Walk.{hopAt, distance}
 use Rattle.mesh.specs.Moving.{hopFrom}
 use Rattle.mesh.proofs.Bools.{and-right}
+use Rattle.nodes.specs.Sized.{OnMesh}
 use Rattle.hops.specs.Moved.{rowBy, columnBy, movedBy, Lands, Reaches, Free}
 use Rattle.hops.proofs.Ways.{row-none, column-none, row-next, column-next, row-add, column-add, ahead-free, ahead-bad, reaches-lands, reaches-on}
 use Rattle.rules.specs.Rows.{inItsRow, nearsRow}
 use Rattle.rules.proofs.Rules.{last-made, last-self, near-again}
-use Rattle.travel.specs.Straight.{OnMesh, after, Runs, Unstopped}
+use Rattle.travel.specs.Straight.{BothOnMesh, after, Runs, Unstopped}
 use Rattle.travel.proofs.Ways.{side-stays, side-reaches, side-row, toward-stays, toward-reaches}
 
 lastBy : ℕ → Heading → Last → Last
@@ -90,11 +91,11 @@ hop-nearing t h r c is-h off free =
           rw (← s, off, e, free′)
     ]
 
-module _ {columns rows : ℕ} {marks : List ℕ} {p : Packet} (g : OnMesh columns rows marks p) where
+module _ {columns rows : ℕ} {marks : List ℕ} {p : Packet} (g : BothOnMesh columns rows marks p) where
   -- in the destination's row, n columns from it, of which x are free
   module _ (on : inItsRow p ≡ true) {n : ℕ} (is-n : n ≡ distance (p .place .column .0) (p .destination .column .0)) {s : Heading} (is-s : s ≡ side (tripOf (mesh columns rows marks) p) (p .place .column .0)) where
     pub row-reaches : Reaches columns rows s n (p .place .row .0) (p .place .column .0)
-    row-reaches = rw is-s (side-reaches (tripOf (mesh columns rows marks) p) (p .place .column .0) (omega arith) (p .place .row .0) (g .row) (g .column) (g .to-column) (g .sized .few-columns))
+    row-reaches = rw is-s (side-reaches (tripOf (mesh columns rows marks) p) (p .place .column .0) (omega arith) (p .place .row .0) (g .here .row) (g .here .column) (g .there .column) (g .here .sized .few-columns))
 
     way : (i : ℕ) → i < n → (side (tripOf (mesh columns rows marks) p) (columnBy s i (p .place .column .0)) ≡ s) × (eqb (columnBy s i (p .place .column .0)) (p .destination .column .0) ≡ false)
     way = rw is-s (side-stays (tripOf (mesh columns rows marks) p) (p .place .column .0) {n = n} (omega arith))
@@ -113,12 +114,12 @@ module _ {columns rows : ℕ} {marks : List ℕ} {p : Packet} (g : OnMesh column
       before i le = open-before (tripOf (mesh columns rows marks) p) i f le (way i (omega (arith, f .most)) .0)
 
       pub row-lands : Lands s (x - 1) (p .place .row .0) (p .place .column .0)
-      row-lands = reaches-lands row-reaches (omega (arith, f .most)) (g .sized .few-columns) (g .sized .few-rows)
+      row-lands = reaches-lands row-reaches (omega (arith, f .most)) (g .here .sized .few-columns) (g .here .sized .few-rows)
 
-      pub row-on : (rowBy s (x - 1) (p .place .row .0) < 64) × (columnBy s (x - 1) (p .place .column .0) < 64)
+      pub row-on : OnMesh columns rows marks (rowBy s (x - 1) (p .place .row .0)) (columnBy s (x - 1) (p .place .column .0))
       row-on =
           let on = reaches-on s row-reaches (x - 1) (omega (arith, f .most)) in
-          (omega (arith, on .0, g .sized .few-rows), omega (arith, on .1, g .sized .few-columns))
+          record { sized = g .here .sized; row = on .0; column = on .1 }
 
       -- the first node that way is bad
       pub unstopped-none : isThere p ≡ false → x ≡ 0 → Unstopped (mesh columns rows marks) s 0 p
@@ -153,7 +154,7 @@ module _ {columns rows : ℕ} {marks : List ℕ} {p : Packet} (g : OnMesh column
   -- in another row, n rows from the destination's, of which x are free
   module _ (nears : nearsRow p ≡ true) {n : ℕ} (is-n : n ≡ distance (p .place .row .0) (p .destination .row .0)) {h : Heading} (is-h : h ≡ toward (tripOf (mesh columns rows marks) p) (p .place .row .0)) where
     pub column-reaches : Reaches columns rows h n (p .place .row .0) (p .place .column .0)
-    column-reaches = rw is-h (toward-reaches (tripOf (mesh columns rows marks) p) (p .place .row .0) (omega arith) (p .place .column .0) (g .row) (g .column) (g .to-row) (g .sized .few-rows))
+    column-reaches = rw is-h (toward-reaches (tripOf (mesh columns rows marks) p) (p .place .row .0) (omega arith) (p .place .column .0) (g .here .row) (g .here .column) (g .there .row) (g .here .sized .few-rows))
 
     onward : (i : ℕ) → i < n → (toward (tripOf (mesh columns rows marks) p) (rowBy h i (p .place .row .0)) ≡ h) × (eqb (rowBy h i (p .place .row .0)) (p .destination .row .0) ≡ false)
     onward = rw is-h (toward-stays (tripOf (mesh columns rows marks) p) (p .place .row .0) {n = n} (omega arith))

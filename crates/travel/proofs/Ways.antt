@@ -9,7 +9,7 @@ use borrow.Author.Tests.{lt-ltb, le-ltb, ne-eqb}
 use lib.Dec.{ltb, eqb}
 use Rattle.mesh.specs.declared.Heading.{Heading}
 use Rattle.mesh.specs.declared.Heading.the-variants.{East as E, North as N, South as S, West as W}
-use Rattle.mesh.specs.Hops.{Trip, side, toward}
+use Rattle.mesh.specs.Rules.{Trip, side, toward}
 use Rattle.mesh.specs.Walk.{distance}
 use Rattle.mesh.proofs.Bools.{value}
 use Rattle.hops.specs.Moved.{rowBy, columnBy, Reaches}

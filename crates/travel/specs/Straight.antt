@@ -6,10 +6,10 @@ use Prim.Native.Nat.{ℕ, zero, suc, _<_}
 use Rattle.mesh.specs.declared.Heading.{Heading}
 use Rattle.mesh.specs.declared.Packet.{Packet}
 use Rattle.mesh.specs.Mesh.{Mesh}
-use Rattle.mesh.specs.Hops.{stopped}
-use Rattle.mesh.specs.Packets.{tripOf, isThere, movedPacket}
+use Rattle.mesh.specs.Rules.{stopped}
+use Rattle.mesh.specs.Hops.{tripOf, isThere, movedPacket}
 use Rattle.mesh.specs.Moving.{hopFrom}
-use Rattle.maps.specs.Sized.{Sized}
+use Rattle.nodes.specs.Sized.{OnMesh}
 use Rattle.rules.specs.Rows.{inItsRow, nearsRow}
 
 -- the packet travels straight from here: it is in its destination's row, or its last hop leads toward that row
@@ -17,12 +17,9 @@ abbrev pub goesStraight : Packet → Bool
 goesStraight p = inItsRow p || nearsRow p
 
 -- the packet and its destination are on the mesh
-pub record OnMesh (columns rows : ℕ) (marks : List ℕ) (p : Packet) : Type 0 where
-  pub sized : Sized columns rows marks
-  pub row : p .place .row .0 < rows
-  pub column : p .place .column .0 < columns
-  pub to-row : p .destination .row .0 < rows
-  pub to-column : p .destination .column .0 < columns
+pub record BothOnMesh (columns rows : ℕ) (marks : List ℕ) (p : Packet) : Type 0 where
+  pub here : OnMesh columns rows marks (p .place .row .0) (p .place .column .0)
+  pub there : OnMesh columns rows marks (p .destination .row .0) (p .destination .column .0)
 
 -- the record after i hops that way, one after another
 unfoldable pub after : ℕ → Heading → Packet → Packet

@@ -3,11 +3,11 @@ ghost use mathlib.Core.Path.{_≡_};
 ghost use mathlib.Core.Bool.{true, false};
 ghost use Prim.Native.Nat.{_≤_};
 ghost use Rattle.mesh.specs.Mesh.{mesh};
-ghost use Rattle.mesh.specs.Hops.{side};
+ghost use Rattle.mesh.specs.Rules.{side};
+ghost use Rattle.mesh.specs.Hops.{tripOf, isThere};
 ghost use Rattle.mesh.specs.Walk.{distance};
-ghost use Rattle.mesh.specs.Packets.{tripOf, isThere};
 ghost use Rattle.rules.specs.Rows.{inItsRow, nearsRow};
-ghost use Rattle.travel.specs.Straight.{goesStraight, OnMesh, Runs, Unstopped};
+ghost use Rattle.travel.specs.Straight.{goesStraight, BothOnMesh, Runs, Unstopped};
 use hops::count_free;
 use hops::moved_by;
 use mesh::Heading;
@@ -48,7 +48,7 @@ pub fn is_straight(p: Packet) -> bool
 // How many of the hops to the side, along the destination's row, are made before the packet is there or stopped. Up to the last free node
 // but one both nodes that could stop it are free; there the column decides.
 fn count_unstopped(columns: u32, rows: u32, marks: &[u8], p: Packet, heading: Heading) -> u32
-    requires { ⌜ OnMesh columns rows (now marks) p × (inItsRow p ≡ true) × (isThere p ≡ false) × (heading ≡ side (tripOf (mesh columns rows (now marks)) p) (p .place .column .0)) ⌝ }
+    requires { ⌜ BothOnMesh columns rows (now marks) p × (inItsRow p ≡ true) × (isThere p ≡ false) × (heading ≡ side (tripOf (mesh columns rows (now marks)) p) (p .place .column .0)) ⌝ }
     ensures { λ x. ⌜ Unstopped (mesh columns rows (now (marks .entry))) heading x p ⌝ }
 {
     let n = distance(p.place.column.0, p.destination.column.0);
@@ -64,7 +64,7 @@ fn count_unstopped(columns: u32, rows: u32, marks: &[u8], p: Packet, heading: He
 
 // Rule 2. In the destination's row: to the side, until the packet is there or stopped; at a stop one hop off the row.
 fn row_leg(columns: u32, rows: u32, marks: &[u8], p: Packet) -> Leg
-    requires { ⌜ OnMesh columns rows (now marks) p × (inItsRow p ≡ true) × (isThere p ≡ false) ⌝ }
+    requires { ⌜ BothOnMesh columns rows (now marks) p × (inItsRow p ≡ true) × (isThere p ≡ false) ⌝ }
     ensures { λ x. ⌜ (1 ≤ x .hops) × Runs (mesh columns rows (now (marks .entry))) (x .heading) (x .hops) p ⌝ }
 {
     let heading = side(p.place.column, p.destination.column);
@@ -81,7 +81,7 @@ fn row_leg(columns: u32, rows: u32, marks: &[u8], p: Packet) -> Leg
 
 // Rule 5. In another row, the last hop toward the destination's: on, until the packet is in it or before a block; there one hop west.
 fn column_leg(columns: u32, rows: u32, marks: &[u8], p: Packet) -> Leg
-    requires { ⌜ OnMesh columns rows (now marks) p × (nearsRow p ≡ true) × (inItsRow p ≡ false) ⌝ }
+    requires { ⌜ BothOnMesh columns rows (now marks) p × (nearsRow p ≡ true) × (inItsRow p ≡ false) ⌝ }
     ensures { λ x. ⌜ (1 ≤ x .hops) × Runs (mesh columns rows (now (marks .entry))) (x .heading) (x .hops) p ⌝ }
 {
     let heading = toward(p.place.row, p.destination.row);
@@ -98,7 +98,7 @@ fn column_leg(columns: u32, rows: u32, marks: &[u8], p: Packet) -> Leg
 
 // The next leg of straight travel: at least one hop. Where neither rule leads on, it is the one hop off the way.
 pub fn next_leg(columns: u32, rows: u32, marks: &[u8], p: Packet) -> Leg
-    requires { ⌜ OnMesh columns rows (now marks) p × (goesStraight p ≡ true) × (isThere p ≡ false) ⌝ }
+    requires { ⌜ BothOnMesh columns rows (now marks) p × (goesStraight p ≡ true) × (isThere p ≡ false) ⌝ }
     ensures { λ x. ⌜ (1 ≤ x .hops) × Runs (mesh columns rows (now (marks .entry))) (x .heading) (x .hops) p ⌝ }
 {
     if is_in_row(p) {

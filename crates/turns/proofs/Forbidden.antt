@@ -4,7 +4,7 @@ use mathlib.Core.Bool.{Bool, true, false, not, _&&_, _||_}
 use Prim.Native.Nat.{ℕ}
 use Rattle.mesh.specs.declared.Heading.{Heading}
 use Rattle.mesh.specs.declared.Heading.the-variants.{East as E, North as N, South as S, West as W}
-use Rattle.mesh.specs.Mesh.{letter, same}
+use Rattle.mesh.specs.Headings.{letter, same}
 use Rattle.mesh.specs.Turns.{forbidden}
 use Rattle.mesh.proofs.Bools.{true-false}
 
@@ -14,7 +14,7 @@ vertical h = same h N || same h S
 module _ (west : ℕ → Bool) (c : ℕ) where
   -- to W: after N and S
   pub to-west : (g h : Heading) → same h W ≡ true → forbidden west c g h ≡ vertical g && not (west c)
-  unfolding forbidden same letter
+  unfolding forbidden same
   to-west g E v = true-false v refl
   to-west g N v = true-false v refl
   to-west g S v = true-false v refl
@@ -25,7 +25,7 @@ module _ (west : ℕ → Bool) (c : ℕ) where
 
   -- to E: never
   pub to-east : (g h : Heading) → same h E ≡ true → forbidden west c g h ≡ false
-  unfolding forbidden same letter
+  unfolding forbidden same
   to-east E E v = refl
   to-east N E v = refl
   to-east S E v = refl
@@ -36,7 +36,7 @@ module _ (west : ℕ → Bool) (c : ℕ) where
 
   -- to N and S: after E
   pub to-vertical : (g h : Heading) → same h W ≡ false → same h E ≡ false → forbidden west c g h ≡ same g E && west c
-  unfolding forbidden same letter
+  unfolding forbidden same
   to-vertical g E v u = true-false refl u
   to-vertical E N v u = refl
   to-vertical N N v u = refl

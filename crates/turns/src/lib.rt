@@ -1,47 +1,22 @@
-// The turn test, and the letters of hops. Odd and even columns are told apart here, in the turn test, and in the hop rules (rules::is_own).
+// The turn test.
 ghost use mathlib.Core.Path.{_≡_};
-ghost use mathlib.Core.Bool.{_||_};
-ghost use Rattle.mesh.specs.declared.Heading.the-variants.{North, South};
-ghost use Rattle.mesh.specs.Mesh.{letter, same};
-ghost use Rattle.mesh.specs.Turns.{turnsWest, forbidden, reverses, turnsBack, turnsWrong};
+ghost use Rattle.mesh.specs.Parity.{turnsWest};
+ghost use Rattle.mesh.specs.Turns.{forbidden, reverses, turnsBack, turnsWrong};
+use headings::is_same;
+use headings::is_vertical;
 use mesh::Column;
 use mesh::Heading;
 use mesh::Last;
+use parity::turns_west;
 
-pub fn letter(h: Heading) -> u8
-    ensures { λ x. ⌜ x ≡ letter h ⌝ }
-{
-    match h {
-        Heading::East => return 69,
-        Heading::North => return 78,
-        Heading::South => return 83,
-        Heading::West => return 87,
-    }
-}
-
-pub fn is_same(g: Heading, h: Heading) -> bool
-    ensures { λ x. ⌜ x ≡ same g h ⌝ }
-{
-    letter(g) == letter(h)
-}
-
-pub fn is_vertical(h: Heading) -> bool
-    ensures { λ x. ⌜ x ≡ same h North || same h South ⌝ }
-{
-    if is_same(h, Heading::North) {
-        return true;
-    }
-    is_same(h, Heading::South)
-}
-
-// Whether the turn is forbidden in this column: EN and ES are in even ones, NW and SW in odd ones.
+// Whether the turn is forbidden in this column: EN and ES are where it permits NW and SW, these are in the others.
 fn is_forbidden(before: Heading, after: Heading, c: Column) -> bool
     ensures { λ x. ⌜ x ≡ forbidden turnsWest (c .0) before after ⌝ }
 {
-    let even = c.0 % 2 == 0;
+    let west = turns_west(c);
     if is_same(after, Heading::West) {
         if is_vertical(before) {
-            return !even;
+            return !west;
         }
         return false;
     }
@@ -49,7 +24,7 @@ fn is_forbidden(before: Heading, after: Heading, c: Column) -> bool
         return false;
     }
     if is_same(before, Heading::East) {
-        return even;
+        return west;
     }
     false
 }

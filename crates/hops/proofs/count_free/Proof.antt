@@ -3,7 +3,7 @@ use mathlib.Core.Path.{sym, _∙_}
 use Prim.Native.Nat.{_≤_, _+_, _-_}
 use native.Mathlib.Omega.{arith}
 use Rattle.mesh.specs.Mesh.{mesh}
-use Rattle.mesh.specs.Blocks.{bad}
+use Rattle.mesh.specs.Nodes.{bad}
 use Rattle.hops.proofs.Ways.{Clear, clear-none, clear-more, clear-bad, clear-all, reaches-lands, reaches-on}
 use Rattle.hops.proofs.count_free.Statement.{statement}
 use Rattle.hops.proofs.count_free.Tie as tie
@@ -30,7 +30,11 @@ column-by-requires : tie.Need-column-by-requires Inv-loop μ-loop
 column-by-requires c κs = let l = reaches-lands (c .before .before .before .before .pre .1) {i = c .before .before .loop .k + 1} (omega arith) (c .before .before .before .before .pre .0 .few-columns) (c .before .before .before .before .pre .0 .few-rows) in (l .column, l .hops, l .west)
 
 is-bad-node-requires : tie.Need-is-bad-node-requires Inv-loop μ-loop
-is-bad-node-requires c κs = let on = reaches-on _ (c .before .before .before .before .before .pre .1) (c .before .before .before .loop .k + 1) (omega arith) in (c .before .before .before .before .before .pre .0, rw (c .before .row-by .ensures) (on .0), rw (c .column-by .ensures) (on .1))
+is-bad-node-requires c κs =
+    let at-loop = c .before .before .before in
+    let (size, reaches) = at-loop .before .before .pre in
+    let on = reaches-on _ reaches (at-loop .loop .k + 1) (omega arith) in
+    record { sized = size; row = rw (c .before .row-by .ensures) (on .0); column = rw (c .column-by .ensures) (on .1) }
 
 returns : tie.Need-returns Inv-loop μ-loop
 returns c = clear-bad (c .before .before .before .before .before .loop .inv .1) (omega arith) (rw (← c .before .before .before .row-by .ensures, ← c .before .before .column-by .ensures) (c .before .is-bad-node .ensures)) (c .if1 .taken)

@@ -1,6 +1,6 @@
 -- The rows, then the columns. Assumes nothing.
 use borrow.Author.Tests.{eq-eqb, ne-eqb}
-use Rattle.mesh.specs.Packets.{isThere}
+use Rattle.mesh.specs.Hops.{isThere}
 use Rattle.hops.proofs.is_there.Statement.{statement}
 use Rattle.hops.proofs.is_there.Tie as tie
 

@@ -1,6 +1,6 @@
 -- By the heading. Assumes nothing.
 use borrow.Author.Needs.{needs}
-use Rattle.mesh.specs.Walk.{stays}
+use Rattle.mesh.specs.Hops.{stays}
 use Rattle.hops.proofs.stays.Statement.{statement}
 use Rattle.hops.proofs.stays.Tie as tie
 

@@ -2,7 +2,7 @@
 use borrow.Author.Needs.{needs}
 use mathlib.Core.Path.{sym, _∙_}
 use borrow.Author.Tests.{not-false}
-use Rattle.mesh.specs.Walk.{moved}
+use Rattle.mesh.specs.Hops.{moved}
 use Rattle.hops.proofs.Landing.{stays-lands, stays-on}
 use Rattle.hops.proofs.Ways.{moved-one}
 use Rattle.hops.proofs.Testing.{leaves, turns-back, turns-wrong, enters, passes}
@@ -16,7 +16,9 @@ returns : tie.Need-returns
 returns c = leaves _ _ _ (c .before .stays .ensures) (c .if1 .taken)
 
 moved-by-requires : tie.Need-moved-by-requires
-moved-by-requires c κs = let (size, row, column) = c .before .before .before .before .before .pre in stays-lands _ _ _ _ row column _ (size .few-columns) (size .few-rows) (sym (c .before .stays .ensures) ∙ not-false _ (c .if1 .left))
+moved-by-requires c κs =
+    let on = c .before .before .before .before .before .pre in
+    stays-lands on _ (sym (c .before .stays .ensures) ∙ not-false _ (c .if1 .left))
 
 turns-back-requires : tie.Need-turns-back-requires
 turns-back-requires c κs = search needs
@@ -32,7 +34,11 @@ returns-3 c = turns-wrong _ _ _ (c .before .before .before .before .before .befo
 
 is-bad-node-requires : tie.Need-is-bad-node-requires
 unfolding moved
-is-bad-node-requires c κs = let (size, row, column) = c .before .before .before .before .before .before .before .before .before .before .pre in let on = stays-on _ _ _ _ row column _ (sym (c .before .before .before .before .before .before .stays .ensures) ∙ not-false _ (c .before .before .before .before .before .if1 .left)) in rw (c .before .before .before .before .moved-by .ensures ∙ moved-one _ _) (size, on .0, on .1)
+is-bad-node-requires c κs =
+    let at-moved = c .before .before .before .before in
+    let at-stays = at-moved .before in
+    let on = at-stays .before .before .before .before .before .pre in
+    rw (at-moved .moved-by .ensures ∙ moved-one _ _) (stays-on on _ (sym (at-stays .before .stays .ensures) ∙ not-false _ (at-stays .if1 .left)))
 
 returns-4 : tie.Need-returns-4
 returns-4 c = enters _ _ _ (c .before .before .before .before .before .before .before .before .stays .ensures) (c .before .before .before .before .before .before .before .if1 .left) (c .before .before .before .before .before .turns-back .ensures) (c .before .before .before .before .if2 .left) (c .before .before .before .turns-wrong .ensures) (c .before .before .if3 .left) (c .before .before .before .before .before .before .moved-by .ensures ∙ moved-one _ _) (c .before .is-bad-node .ensures) (c .if4 .taken)

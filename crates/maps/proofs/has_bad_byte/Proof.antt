@@ -5,7 +5,7 @@ use native.Mathlib.Omega.{arith}
 use borrow.Author.Tests.{lt-ltb, le-ltb}
 use lib.Dec.{ltb}
 use lib.ListN.{length}
-use Rattle.mesh.specs.Refusals.{badByte}
+use Rattle.mesh.specs.Maps.{badByte}
 use Rattle.mesh.proofs.Some.{someFrom, some-all, some-end, some-here, some-later}
 use Rattle.maps.proofs.has_bad_byte.Statement.{statement}
 use Rattle.maps.proofs.has_bad_byte.Tie as tie

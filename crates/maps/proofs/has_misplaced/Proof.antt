@@ -2,7 +2,7 @@
 use mathlib.Core.Path.{_≡_, refl, sym, _∙_}
 use Prim.Native.Nat.{_*_, _≤_, _-_}
 use native.Mathlib.Omega.{arith}
-use Rattle.mesh.specs.Refusals.{misplaced, misplacedAt}
+use Rattle.mesh.specs.Maps.{misplaced, misplacedAt}
 use Rattle.mesh.proofs.Index.{few-nodes}
 use Rattle.mesh.proofs.Some.{someFrom, some-all, some-end, some-here, some-later}
 use Rattle.maps.proofs.has_misplaced.Statement.{statement}

@@ -1,6 +1,6 @@
 -- The four tests of the definition, one after the other. Assumes nothing.
 use borrow.Author.Needs.{needs}
-use Rattle.maps.proofs.Lookup.{allowed-south, allowed-north, allowed-west, allowed-east}
+use Rattle.maps.proofs.Checks.{allowed-south, allowed-north, allowed-west, allowed-east}
 use Rattle.maps.proofs.is_allowed.Statement.{statement}
 use Rattle.maps.proofs.is_allowed.Tie as tie
 

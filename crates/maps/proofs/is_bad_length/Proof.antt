@@ -1,7 +1,7 @@
 -- Few nodes, so that their number fits. Assumes nothing.
 use mathlib.Core.Path.{refl}
 use native.Mathlib.Omega.{arith}
-use Rattle.mesh.specs.Refusals.{badLength}
+use Rattle.mesh.specs.Maps.{badLength}
 use Rattle.mesh.proofs.Index.{few-nodes}
 use Rattle.maps.proofs.is_bad_length.Statement.{statement}
 use Rattle.maps.proofs.is_bad_length.Tie as tie

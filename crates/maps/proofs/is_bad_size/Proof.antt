@@ -1,6 +1,6 @@
 -- The two tests of the definition, one after the other. Assumes nothing.
 use borrow.Author.Tests.{eq-eqb, ne-eqb}
-use Rattle.mesh.specs.Refusals.{badSize}
+use Rattle.mesh.specs.Maps.{badSize}
 use Rattle.maps.proofs.is_bad_size.Statement.{statement}
 use Rattle.maps.proofs.is_bad_size.Tie as tie
 

@@ -1,5 +1,5 @@
 -- A sound node is never misplaced, a fault unless it is allowed. Assumes nothing.
-use Rattle.maps.proofs.Lookup.{place-fits, sound-placed, fault-placed}
+use Rattle.maps.proofs.Checks.{place-fits, sound-placed, fault-placed}
 use Rattle.maps.proofs.is_misplaced.Statement.{statement}
 use Rattle.maps.proofs.is_misplaced.Tie as tie
 

@@ -4,8 +4,8 @@ use mathlib.Core.Path.{sym, ap, _∙_}
 use native.Mathlib.Omega.{arith}
 use lib.Seq.{length-take-le}
 use lib.ListN.{length}
-use Rattle.mesh.proofs.Refusals.{map-refused, map-clear}
-use Rattle.marking.proofs.Marks.{map-refused-marks, clear-sized, room-refused, front, front-sized, marks-done}
+use Rattle.mesh.proofs.Tests.{told-clear}
+use Rattle.marking.proofs.Marks.{map-refused, clear-sized, room-refused, front, front-sized, marks-done}
 use Rattle.marking.proofs.mark_blocks.Statement.{statement}
 use Rattle.marking.proofs.mark_blocks.Tie as tie
 
@@ -16,13 +16,13 @@ enum-known-checked : tie.Need-enum-known-checked
 enum-known-checked c = search needs
 
 returns : tie.Need-returns
-returns c = map-refused-marks _ _ _ _ _ (λ others. map-refused _ _ _ others (c .before .checked .given .1) (c .before .before .before .check-map .ensures))
+returns c = map-refused _ _ _ _ (c .before .checked .given .1) (c .before .before .before .check-map .ensures)
 
 enum-told : tie.Need-enum-told
 enum-told c = search needs
 
 returns-2 : tie.Need-returns-2
-returns-2 c = room-refused _ _ _ _ (map-clear _ _ _ (c .before .enum-told .given .1) (c .before .before .before .check-map .ensures)) (c .if1 .taken)
+returns-2 c = room-refused _ _ _ _ (told-clear _ (c .before .enum-told .given .1) (c .before .before .before .check-map .ensures)) (c .if1 .taken)
 
 slice-relend-prefix-mark : tie.Need-slice-relend-prefix-mark
 slice-relend-prefix-mark c = search needs
@@ -31,22 +31,22 @@ slice-aggregate-mark : tie.Need-slice-aggregate-mark
 slice-aggregate-mark c = sym (length-take-le _ _ (omega arith))
 
 mark-requires : tie.Need-mark-requires
-mark-requires c κs = (clear-sized _ _ _ (map-clear _ _ _ (c .before .before .enum-told .given .1) (c .before .before .before .before .check-map .ensures)), length-take-le _ _ (omega arith))
+mark-requires c κs = (clear-sized _ _ _ (told-clear _ (c .before .before .enum-told .given .1) (c .before .before .before .before .check-map .ensures)), length-take-le _ _ (omega arith))
 
 slice-reshare-prefix-count-blocks : tie.Need-slice-reshare-prefix-count-blocks
 slice-reshare-prefix-count-blocks c = search needs
 
 slice-aggregate-count-blocks : tie.Need-slice-aggregate-count-blocks
-slice-aggregate-count-blocks c = sym (ap length (front _ _ _ (map-clear _ _ _ (c .before .before .before .before .before .before .enum-told .given .1) (c .before .before .before .before .before .before .before .before .check-map .ensures)) (c .before .before .before .mark .ensures) _) ∙ c .before .before .before .mark .kept .1 .1 .1 .0 ∙ length-take-le _ _ (omega arith))
+slice-aggregate-count-blocks c = sym (ap length (front _ _ _ (told-clear _ (c .before .before .before .before .before .before .enum-told .given .1) (c .before .before .before .before .before .before .before .before .check-map .ensures)) (c .before .before .before .mark .ensures) _) ∙ c .before .before .before .mark .kept .1 .1 .1 .0 ∙ length-take-le _ _ (omega arith))
 
 count-blocks-requires : tie.Need-count-blocks-requires
-count-blocks-requires c κs = front-sized _ _ _ (map-clear _ _ _ (c .before .before .before .before .before .before .enum-told .given .1) (c .before .before .before .before .before .before .before .before .check-map .ensures)) (c .before .before .before .mark .ensures) _
+count-blocks-requires c κs = front-sized _ _ _ (told-clear _ (c .before .before .before .before .before .before .enum-told .given .1) (c .before .before .before .before .before .before .before .before .check-map .ensures)) (c .before .before .before .mark .ensures) _
 
 same-length : tie.Need-same-length
 same-length c = search needs
 
 returns-3 : tie.Need-returns-3
-returns-3 c = marks-done _ _ _ _ (map-clear _ _ _ (c .before .before .before .before .before .before .before .enum-told .given .1) (c .before .before .before .before .before .before .before .before .before .check-map .ensures)) (omega arith) (c .before .before .before .before .mark .ensures) (c .count-blocks .ensures)
+returns-3 c = marks-done _ _ _ _ (told-clear _ (c .before .before .before .before .before .before .before .enum-told .given .1) (c .before .before .before .before .before .before .before .before .before .check-map .ensures)) (omega arith) (c .before .before .before .before .mark .ensures) (c .count-blocks .ensures)
 
 pub mark-blocks-spec : {M : Type 1} → statement M
 mark-blocks-spec =

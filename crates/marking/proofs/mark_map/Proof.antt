@@ -3,7 +3,7 @@ use borrow.Author.Needs.{needs}
 use mathlib.Core.Path.{sym}
 use native.Mathlib.Omega.{arith}
 use lib.Seq.{length-take-le}
-use Rattle.mesh.proofs.Refusals.{map-clear}
+use Rattle.mesh.proofs.Tests.{told-clear}
 use Rattle.marking.proofs.Marks.{clear-sized, clear-few, map-not-marked, map-marked}
 use Rattle.marking.proofs.mark_map.Statement.{statement}
 use Rattle.marking.proofs.mark_map.Tie as tie
@@ -21,19 +21,19 @@ enum-told : tie.Need-enum-told
 enum-told c = search needs
 
 slice-relend-prefix-mark : tie.Need-slice-relend-prefix-mark
-slice-relend-prefix-mark c = omega (arith, clear-few _ _ _ (map-clear _ _ _ (c .enum-told .given .1) (c .before .before .check-map .ensures)))
+slice-relend-prefix-mark c = omega (arith, clear-few _ _ _ (told-clear _ (c .enum-told .given .1) (c .before .before .check-map .ensures)))
 
 slice-aggregate-mark : tie.Need-slice-aggregate-mark
-slice-aggregate-mark c = sym (length-take-le _ _ (omega (arith, clear-few _ _ _ (map-clear _ _ _ (c .before .enum-told .given .1) (c .before .before .before .check-map .ensures)))))
+slice-aggregate-mark c = sym (length-take-le _ _ (omega (arith, clear-few _ _ _ (told-clear _ (c .before .enum-told .given .1) (c .before .before .before .check-map .ensures)))))
 
 mark-requires : tie.Need-mark-requires
-mark-requires c κs = (clear-sized _ _ _ (map-clear _ _ _ (c .before .enum-told .given .1) (c .before .before .before .check-map .ensures)), length-take-le _ _ (omega (arith, clear-few _ _ _ (map-clear _ _ _ (c .before .enum-told .given .1) (c .before .before .before .check-map .ensures)))))
+mark-requires c κs = (clear-sized _ _ _ (told-clear _ (c .before .enum-told .given .1) (c .before .before .before .check-map .ensures)), length-take-le _ _ (omega (arith, clear-few _ _ _ (told-clear _ (c .before .enum-told .given .1) (c .before .before .before .check-map .ensures)))))
 
 same-length : tie.Need-same-length
 same-length c = search needs
 
 returns-2 : tie.Need-returns-2
-returns-2 c = map-marked _ _ _ _ (map-clear _ _ _ (c .before .before .before .before .enum-told .given .1) (c .before .before .before .before .before .before .check-map .ensures)) (c .before .before .mark .ensures)
+returns-2 c = map-marked _ _ _ _ (told-clear _ (c .before .before .before .before .enum-told .given .1) (c .before .before .before .before .before .before .check-map .ensures)) (c .before .before .mark .ensures)
 
 pub mark-map-spec : {M : Type 1} → statement M
 mark-map-spec =

@@ -3,7 +3,7 @@ use borrow.Author.Needs.{needs}
 use mathlib.Core.Path.{ap, _∙_}
 use native.Mathlib.Omega.{arith}
 use Rattle.mesh.specs.Mesh.{mesh}
-use Rattle.mesh.specs.Blocks.{marked}
+use Rattle.mesh.specs.Rounds.{marked}
 use Rattle.rounds.proofs.Copy.{copied-all}
 use Rattle.rounds.proofs.mark.Statement.{statement}
 use Rattle.rounds.proofs.mark.Tie as tie

@@ -1,22 +1,22 @@
 -- A bad node stays, a safe one goes by the rules. Assumes nothing.
 use borrow.Author.Needs.{needs}
 use native.Mathlib.Omega.{arith}
-use Rattle.maps.proofs.Lookup.{at-fits}
-use Rattle.rounds.proofs.Rules.{node-bad, node-turns, node-stays}
+use Rattle.nodes.proofs.Lookup.{at-fits}
+use Rattle.rounds.proofs.Nodes.{node-bad, node-turns, node-stays}
 use Rattle.rounds.proofs.node.Statement.{statement}
 use Rattle.rounds.proofs.node.Tie as tie
 
 mul-at : tie.Need-mul-at
-mul-at c = let h = at-fits _ _ _ _ _ (c .before .pre .0) (c .before .pre .1) (c .before .pre .2) in omega arith
+mul-at c = let h = at-fits _ _ _ _ _ (c .before .pre) in omega arith
 
 add-at : tie.Need-add-at
-add-at c = let h = at-fits _ _ _ _ _ (c .before .pre .0) (c .before .pre .1) (c .before .pre .2) in omega arith
+add-at c = let h = at-fits _ _ _ _ _ (c .before .pre) in omega arith
 
 cast-x : tie.Need-cast-x
-cast-x c = let h = at-fits _ _ _ _ _ (c .before .pre .0) (c .before .pre .1) (c .before .pre .2) in omega arith
+cast-x c = let h = at-fits _ _ _ _ _ (c .before .pre) in omega arith
 
 shared-slice-read-x : tie.Need-shared-slice-read-x
-shared-slice-read-x c = at-fits _ _ _ _ _ (c .before .before .pre .0) (c .before .before .pre .1) (c .before .before .pre .2) .0
+shared-slice-read-x c = at-fits _ _ _ _ _ (c .before .before .pre) .0
 
 returns : tie.Need-returns
 returns c = node-bad _ _ _ (c .if1 .taken)

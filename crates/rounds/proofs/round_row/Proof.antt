@@ -3,7 +3,7 @@ use mathlib.Core.Path.{_≡_}
 use Prim.Native.Nat.{_≤_, _-_}
 use native.Mathlib.Omega.{arith}
 use Rattle.mesh.specs.Mesh.{mesh}
-use Rattle.maps.proofs.Lookup.{at-fits}
+use Rattle.nodes.proofs.Lookup.{at-fits}
 use Rattle.rounds.specs.Rounds.{RowAfter}
 use Rattle.rounds.proofs.Rows.{row-fits, row-none, row-more}
 use Rattle.rounds.proofs.round_row.Statement.{statement}
@@ -22,16 +22,16 @@ loop-holds : tie.Need-loop-holds Inv-loop μ-loop
 loop-holds c = (omega arith, row-none _ _ _)
 
 add-at : tie.Need-add-at Inv-loop μ-loop
-add-at c = let h = at-fits _ _ _ _ _ (c .before .before .before .before .pre .0) (c .before .before .before .before .pre .1) (c .loop-test .taken) in omega arith
+add-at c = let h = at-fits _ _ _ _ _ (record { sized = c .before .before .before .before .pre .0; row = c .before .before .before .before .pre .1; column = c .loop-test .taken }) in omega arith
 
 node-requires : tie.Need-node-requires Inv-loop μ-loop
-node-requires c κs = (c .before .before .before .before .pre .0, c .before .before .before .before .pre .1, c .loop-test .taken)
+node-requires c κs = record { sized = c .before .before .before .before .pre .0; row = c .before .before .before .before .pre .1; column = c .loop-test .taken }
 
 cast-next : tie.Need-cast-next Inv-loop μ-loop
-cast-next c = let h = at-fits _ _ _ _ _ (c .before .before .before .before .before .pre .0) (c .before .before .before .before .before .pre .1) (c .before .loop-test .taken) in omega arith
+cast-next c = let h = at-fits _ _ _ _ _ (record { sized = c .before .before .before .before .before .pre .0; row = c .before .before .before .before .before .pre .1; column = c .before .loop-test .taken }) in omega arith
 
 slice-write-next : tie.Need-slice-write-next Inv-loop μ-loop
-slice-write-next c = let h = at-fits _ _ _ _ _ (c .before .before .before .before .before .pre .0) (c .before .before .before .before .before .pre .1) (c .before .loop-test .taken) in omega (arith, c .before .before .loop .inv .1 .size)
+slice-write-next c = let h = at-fits _ _ _ _ _ (record { sized = c .before .before .before .before .before .pre .0; row = c .before .before .before .before .before .pre .1; column = c .before .loop-test .taken }) in omega (arith, c .before .before .loop .inv .1 .size)
 
 add-column : tie.Need-add-column Inv-loop μ-loop
 add-column c = omega (arith, c .before .before .before .before .before .pre .0 .few-columns)
@@ -40,7 +40,7 @@ loop-less : tie.Need-loop-less Inv-loop μ-loop
 loop-less c = omega arith
 
 loop-again : tie.Need-loop-again Inv-loop μ-loop
-loop-again c = (omega arith, row-more _ _ _ _ _ _ (c .before .before .loop .inv .1) (let h = at-fits _ _ _ _ _ (c .before .before .before .before .before .pre .0) (c .before .before .before .before .before .pre .1) (c .before .loop-test .taken) in omega (arith, c .before .before .loop .inv .1 .size)) (c .node .ensures))
+loop-again c = (omega arith, row-more _ _ _ _ _ _ (c .before .before .loop .inv .1) (let h = at-fits _ _ _ _ _ (record { sized = c .before .before .before .before .before .pre .0; row = c .before .before .before .before .before .pre .1; column = c .before .loop-test .taken }) in omega (arith, c .before .before .loop .inv .1 .size)) (c .node .ensures))
 
 same-length : tie.Need-same-length Inv-loop μ-loop
 same-length c = c .before .loop .inv .1 .size

@@ -4,7 +4,7 @@ use Prim.Native.Nat.{_+_}
 use native.Mathlib.Omega.{arith}
 use lib.ListN.{length}
 use Rattle.mesh.proofs.Index.{few-nodes}
-use Rattle.block_theory.proofs.Marking.{safe}
+use Rattle.theory_blocks.proofs.Marking.{safe}
 use Rattle.rounds.proofs.Rounds.{Settling, bit, settling-start, settling-more, settling-less}
 use Rattle.rounds.proofs.settle.Statement.{statement}
 use Rattle.rounds.proofs.settle.Tie as tie

@@ -1,6 +1,6 @@
 -- Away from the row by rule 3, along it by rules 4 and 6. Assumes nothing.
 use borrow.Author.Needs.{needs}
-use Rattle.mesh.specs.Hops.{toward}
+use Rattle.mesh.specs.Rules.{toward}
 use Rattle.rules.specs.Rows.{nearsRow}
 use Rattle.rules.proofs.Rules.{round-leaving, round-across}
 use Rattle.rules.proofs.after.Statement.{statement}
@@ -16,7 +16,7 @@ returns : tie.Need-returns
 unfolding nearsRow toward
 returns c =
     let pre = c .before .before .before .before .pre in
-    round-leaving _ _ _ _ (pre .3) (c .before .before .is-vertical .ensures) (c .before .if1 .taken) (pre .4) (c .leaving .ensures)
+    round-leaving _ _ _ _ (pre .1) (c .before .before .is-vertical .ensures) (c .before .if1 .taken) (pre .2) (c .leaving .ensures)
 
 across-requires : tie.Need-across-requires
 across-requires c κs = search needs
@@ -24,7 +24,7 @@ across-requires c κs = search needs
 returns-2 : tie.Need-returns-2
 returns-2 c =
     let pre = c .before .before .before .before .pre in
-    round-across _ _ _ _ (pre .3) (c .before .before .is-vertical .ensures) (c .before .if1 .left) (c .across .ensures)
+    round-across _ _ _ _ (pre .1) (c .before .before .is-vertical .ensures) (c .before .if1 .left) (c .across .ensures)
 
 pub after-spec : {M : Type 1} → statement M
 after-spec =

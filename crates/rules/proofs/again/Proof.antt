@@ -1,6 +1,6 @@
 -- By the last hop. Assumes nothing.
 use borrow.Author.Needs.{needs}
-use Rattle.mesh.specs.Hops.{again}
+use Rattle.mesh.specs.Rules.{again}
 use Rattle.rules.proofs.Rules.{again-south, again-north}
 use Rattle.rules.proofs.again.Statement.{statement}
 use Rattle.rules.proofs.again.Tie as tie

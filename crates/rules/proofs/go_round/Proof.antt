@@ -1,6 +1,6 @@
 -- By the last hop. Assumes nothing.
 use borrow.Author.Needs.{needs}
-use Rattle.mesh.specs.Hops.{otherRow}
+use Rattle.mesh.specs.Rules.{otherRow}
 use Rattle.rules.proofs.go_round.Statement.{statement}
 use Rattle.rules.proofs.go_round.Tie as tie
 
@@ -20,7 +20,7 @@ enum-known-l c = search needs
 after-requires : tie.Need-after-requires
 after-requires c κs =
     let pre = c .before .before .before .before .pre in
-    (pre .0, pre .1, pre .2, c .before .l .given .1, pre .3)
+    (pre .0, c .before .l .given .1, pre .1)
 
 returns-2 : tie.Need-returns-2
 returns-2 c = search needs

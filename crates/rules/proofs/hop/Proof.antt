@@ -1,7 +1,7 @@
 -- In the destination's row or not. Assumes nothing.
 use borrow.Author.Needs.{needs}
 use mathlib.Core.Path.{sym, _∙_}
-use Rattle.mesh.specs.Hops.{hop}
+use Rattle.mesh.specs.Rules.{hop}
 use Rattle.mesh.specs.Walk.{hopAt}
 use Rattle.rules.specs.Rows.{inItsRow}
 use Rattle.rules.proofs.hop.Statement.{statement}

@@ -1,6 +1,6 @@
 -- Rule 3 with the hop of a stop. Assumes nothing.
 use borrow.Author.Needs.{needs}
-use Rattle.mesh.specs.Hops.{inRow, leaving}
+use Rattle.mesh.specs.Rules.{inRow, leaving}
 use Rattle.rules.proofs.in_row.Statement.{statement}
 use Rattle.rules.proofs.in_row.Tie as tie
 

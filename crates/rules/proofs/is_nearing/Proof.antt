@@ -1,8 +1,10 @@
 -- The way to the row, and the last hop. Assumes nothing.
 use borrow.Author.Needs.{needs}
+use mathlib.Core.Path.{refl}
 use mathlib.Core.List.{[]}
 use Rattle.mesh.specs.Mesh.{mesh}
-use Rattle.mesh.specs.Hops.{toward}
+use Rattle.mesh.specs.Rules.{toward}
+use Rattle.mesh.specs.Hops.{tripOf}
 use Rattle.rules.specs.Rows.{nearsRow}
 use Rattle.rules.proofs.is_nearing.Statement.{statement}
 use Rattle.rules.proofs.is_nearing.Tie as tie
@@ -15,7 +17,7 @@ is-last-requires c κs = search needs
 
 returns : tie.Need-returns
 unfolding nearsRow toward
-returns c = rw (← c .before .toward .ensures (mesh 0 0 []) 0) (c .is-last .ensures)
+returns c = rw (← c .before .toward .ensures (tripOf (mesh 0 0 []) (c .before .before .args .p)) refl) (c .is-last .ensures)
 
 pub is-nearing-spec : {M : Type 1} → statement M
 is-nearing-spec = tie.close (tie.spec toward-requires is-last-requires returns)

@@ -1,9 +1,10 @@
 -- Toward the row by rule 5, else by the other rules. Assumes nothing.
 use borrow.Author.Needs.{needs}
-use mathlib.Core.Path.{sym, _∙_}
+use mathlib.Core.Path.{refl, sym, _∙_}
 use mathlib.Core.List.{[]}
 use Rattle.mesh.specs.Mesh.{mesh}
-use Rattle.mesh.specs.Hops.{toward}
+use Rattle.mesh.specs.Rules.{toward}
+use Rattle.mesh.specs.Hops.{tripOf}
 use Rattle.rules.specs.Rows.{nearsRow}
 use Rattle.rules.proofs.Rules.{near-again}
 use Rattle.rules.proofs.other_row.Statement.{statement}
@@ -22,12 +23,12 @@ returns : tie.Need-returns
 unfolding nearsRow toward
 returns c =
     let nears = sym (c .before .before .before .is-nearing .ensures) ∙ c .before .before .if1 .taken in
-    near-again _ _ _ _ (c .before .toward .ensures (mesh 0 0 []) 0) nears (c .nearing .ensures)
+    near-again _ _ _ _ (c .before .toward .ensures (tripOf (mesh 0 0 []) (c .before .before .before .before .before .args .p)) refl) nears (c .nearing .ensures)
 
 go-round-requires : tie.Need-go-round-requires
 go-round-requires c κs =
-    let pre = c .before .before .before .pre in
-    (pre .0, pre .1, pre .2, sym (c .before .is-nearing .ensures) ∙ c .if1 .left)
+    let on = c .before .before .before .pre in
+    (on, sym (c .before .is-nearing .ensures) ∙ c .if1 .left)
 
 returns-2 : tie.Need-returns-2
 returns-2 c = search needs

@@ -4,10 +4,10 @@ use Prim.Native.Nat.{_≤_, _-_}
 use native.Mathlib.Omega.{arith}
 use borrow.Author.Needs.{needs}
 use lib.ListN.{length}
-use Rattle.walk_theory.specs.Claims.{mostHops}
-use Rattle.sheets.specs.Room.{answerRoom}
-use Rattle.reader.specs.Reading.{readerOf}
-use Rattle.reader.proofs.Feeding.{part-fits, part-some}
+use Rattle.theory_walk.specs.Claims.{mostHops}
+use Rattle.sheet_lines.specs.Room.{answerRoom}
+use Rattle.sheet_reader.specs.Reading.{readerOf}
+use Rattle.sheet_reader.proofs.Feeding.{part-fits, part-some}
 use Rattle.sheet.proofs.Keeps.{Using, using-none, takes-some, using-over, using-all, using-more, unwritten}
 use Rattle.sheet.proofs.answer_some.Statement.{statement}
 use Rattle.sheet.proofs.answer_some.Tie as tie

@@ -4,8 +4,8 @@ use Prim.Native.Nat.{_≤_}
 use native.Mathlib.Omega.{arith}
 use borrow.Author.Tests.{not-true, not-false}
 use lib.ListN.{length}
-use Rattle.walk_theory.specs.Claims.{mostHops}
-use Rattle.sheets.specs.Room.{answerRoom}
+use Rattle.theory_walk.specs.Claims.{mostHops}
+use Rattle.sheet_lines.specs.Room.{answerRoom}
 use Rattle.sheet.proofs.Keeps.{Going, left, going-first, going-stops, going-on, going-less}
 use Rattle.sheet.proofs.read_all.Statement.{statement}
 use Rattle.sheet.proofs.read_all.Tie as tie

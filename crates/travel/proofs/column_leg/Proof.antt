@@ -1,7 +1,7 @@
 -- The nodes in the way are counted. Assumes nothing.
 use borrow.Author.Needs.{needs}
 use native.Mathlib.Omega.{arith}
-use mathlib.Core.Path.{_≡_}
+use mathlib.Core.Path.{refl, _≡_}
 use Rattle.travel.proofs.Runs.{column-reaches, column-runs, leaves-column}
 use Rattle.travel.proofs.column_leg.Statement.{statement}
 use Rattle.travel.proofs.column_leg.Tie as tie
@@ -15,20 +15,20 @@ distance-requires c κs = search needs
 count-free-requires : tie.Need-count-free-requires
 count-free-requires c κs =
     let pre = c .before .before .before .pre in
-    (pre .0 .sized, column-reaches (pre .0) (pre .1) (c .distance .ensures) (c .before .toward .ensures _ _))
+    (pre .0 .here .sized, column-reaches (pre .0) (pre .1) (c .distance .ensures) (c .before .toward .ensures _ refl))
 
 returns : tie.Need-returns
 returns c =
     let counted = c .before in
     let pre = counted .before .before .before .before .pre in
-    (omega arith, column-runs (pre .0) (pre .1) (counted .before .distance .ensures) (counted .before .before .toward .ensures _ _) (counted .count-free .ensures))
+    (omega arith, column-runs (pre .0) (pre .1) (counted .before .distance .ensures) (counted .before .before .toward .ensures _ refl) (counted .count-free .ensures))
 
 returns-2 : tie.Need-returns-2
 returns-2 c =
     let counted = c .before in
     let pre = counted .before .before .before .before .pre in
     let none : counted .count-free .result ≡ 0 = omega arith in
-    (omega arith, leaves-column (pre .0) (pre .1) (counted .before .distance .ensures) (counted .before .before .toward .ensures _ _) (pre .2) (rw none at (counted .count-free .ensures)))
+    (omega arith, leaves-column (pre .0) (pre .1) (counted .before .distance .ensures) (counted .before .before .toward .ensures _ refl) (pre .2) (rw none at (counted .count-free .ensures)))
 
 pub column-leg-spec : {M : Type 1} → statement M
 column-leg-spec =

@@ -12,7 +12,7 @@ distance-requires c κs = search needs
 count-free-requires : tie.Need-count-free-requires
 count-free-requires c κs =
     let pre = c .before .before .pre in
-    (pre .0 .sized, row-reaches (pre .0) (pre .1) (c .distance .ensures) (pre .3))
+    (pre .0 .here .sized, row-reaches (pre .0) (pre .1) (c .distance .ensures) (pre .3))
 
 returns : tie.Need-returns
 returns c =
@@ -34,8 +34,7 @@ unfolding movedBy
 is-stopped-requires c κs =
     let counted = c .before .before in
     let pre = counted .before .before .before .pre in
-    let on = row-on (pre .0) (pre .1) (counted .before .distance .ensures) (pre .3) (counted .count-free .ensures) in
-    rw (c .moved-by .ensures) (pre .0 .sized, on .0, on .1)
+    rw (c .moved-by .ensures) (row-on (pre .0) (pre .1) (counted .before .distance .ensures) (pre .3) (counted .count-free .ensures))
 
 sub-result : tie.Need-sub-result
 sub-result c = search needs

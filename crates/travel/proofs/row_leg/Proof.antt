@@ -1,5 +1,6 @@
 -- The hops before a stop, or the hop at it. Assumes nothing.
 use borrow.Author.Needs.{needs}
+use mathlib.Core.Path.{refl}
 use native.Mathlib.Omega.{arith}
 use Rattle.travel.proofs.Runs.{leaves-row}
 use Rattle.travel.proofs.row_leg.Statement.{statement}
@@ -11,7 +12,7 @@ side-requires c κs = search needs
 count-unstopped-requires : tie.Need-count-unstopped-requires
 count-unstopped-requires c κs =
     let pre = c .before .before .pre in
-    (pre .0, pre .1, pre .2, c .side .ensures _ _)
+    (pre .0, pre .1, pre .2, c .side .ensures _ refl)
 
 returns : tie.Need-returns
 returns c = (omega arith, c .before .count-unstopped .ensures .runs)

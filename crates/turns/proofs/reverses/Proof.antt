@@ -1,6 +1,6 @@
 -- By the first hop. Assumes nothing.
 use borrow.Author.Needs.{needs}
-use Rattle.mesh.specs.Mesh.{opposite}
+use Rattle.mesh.specs.Headings.{opposite}
 use Rattle.mesh.specs.Turns.{reverses}
 use Rattle.turns.proofs.reverses.Statement.{statement}
 use Rattle.turns.proofs.reverses.Tie as tie

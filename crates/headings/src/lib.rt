@@ -1,0 +1,96 @@
+// Headings: their letters, and last hops in numbers.
+ghost use mathlib.Core.Path.{_≡_};
+ghost use mathlib.Core.Bool.{_||_};
+ghost use Rattle.mesh.specs.declared.Heading.the-variants.{North, South};
+ghost use Rattle.mesh.specs.Headings.{letter, same, named, headingNumber, lastNumber, lastOf};
+use mesh::Heading;
+use mesh::Last;
+use mesh::Letter;
+
+pub fn letter(h: Heading) -> u8
+    ensures { λ x. ⌜ x ≡ letter h ⌝ }
+{
+    match h {
+        Heading::East => return b'E',
+        Heading::North => return b'N',
+        Heading::South => return b'S',
+        Heading::West => return b'W',
+    }
+}
+
+pub fn is_same(g: Heading, h: Heading) -> bool
+    ensures { λ x. ⌜ x ≡ same g h ⌝ }
+{
+    letter(g) == letter(h)
+}
+
+pub fn is_vertical(h: Heading) -> bool
+    ensures { λ x. ⌜ x ≡ same h North || same h South ⌝ }
+{
+    if is_same(h, Heading::North) {
+        return true;
+    }
+    is_same(h, Heading::South)
+}
+
+// The hop that a byte names, found by two tests or three: no table of jumps is made of them.
+pub fn read_letter(x: u8) -> Letter
+    ensures { λ l. ⌜ l ≡ named x ⌝ }
+{
+    if x < b'O' {
+        if x == b'E' {
+            return Letter::Hop(Heading::East);
+        }
+        if x == b'N' {
+            return Letter::Hop(Heading::North);
+        }
+        return Letter::Other;
+    }
+    if x == b'S' {
+        return Letter::Hop(Heading::South);
+    }
+    if x == b'W' {
+        return Letter::Hop(Heading::West);
+    }
+    Letter::Other
+}
+
+fn heading_number(h: Heading) -> u32
+    ensures { λ x. ⌜ x ≡ headingNumber h ⌝ }
+{
+    match h {
+        Heading::East => return 1,
+        Heading::North => return 2,
+        Heading::South => return 3,
+        Heading::West => return 4,
+    }
+}
+
+// The number of a last hop: 0 none, 1 E, 2 N, 3 S, 4 W.
+pub fn last_number(last: Last) -> u32
+    ensures { λ x. ⌜ x ≡ lastNumber last ⌝ }
+{
+    match last {
+        Last::None => return 0,
+        Last::Made(h) => return heading_number(h),
+    }
+}
+
+// The last hop of that number.
+pub fn last_of(n: u32) -> Last
+    ensures { λ x. ⌜ x ≡ lastOf n ⌝ }
+{
+    if n == 1 {
+        return Last::Made(Heading::East);
+    }
+    if n == 2 {
+        return Last::Made(Heading::North);
+    }
+    if n == 3 {
+        return Last::Made(Heading::South);
+    }
+    if n == 4 {
+        return Last::Made(Heading::West);
+    }
+    Last::None
+}

@@ -1,0 +1,54 @@
+-- Where a fault is allowed, and what refusals 1 to 3 leave, case by case. Assumes nothing.
+use mathlib.Core.Path.{_≡_, refl}
+use mathlib.Core.Bool.{Bool, false, not, and-false}
+use mathlib.Core.List.{List}
+use Prim.Native.Nat.{ℕ, zero, suc, _+_, _-_, _*_, _/_, _%_, _≤_, _<_}
+use native.Mathlib.Omega.{arith}
+use borrow.Author.Tests.{lt-ltb, le-ltb, le-leb, lt-leb, ne-eqb}
+use lib.Dec.{eqb, ltb, eqb·suc-zero}
+use lib.ListN.{length, getD}
+use Rattle.mesh.specs.declared.Heading.{Heading}
+use Rattle.mesh.specs.declared.Heading.the-variants.{East as E, North as N, South as S, West as W}
+use Rattle.mesh.specs.Mesh.{mesh, onMesh}
+use Rattle.mesh.specs.Nodes.{isBad, bad, ahead}
+use Rattle.mesh.specs.Maps.{allowed, badSize, badLength, misplacedAt}
+use Rattle.mesh.specs.Requests.{offMesh}
+use Rattle.mesh.specs.declared.Place.{Place}
+use Rattle.mesh.proofs.Maps.{good-size, good-length}
+use Rattle.mesh.proofs.Requests.{on-row, on-column}
+use Rattle.mesh.proofs.Index.{index-within, few-nodes, place-of}
+use Rattle.nodes.specs.Sized.{Sized}
+use Rattle.nodes.proofs.Lookup.{isBad-test}
+
+module _ (columns rows r c : ℕ) where
+  pub allowed-south : r < 1 → false ≡ allowed columns rows r c
+  unfolding allowed
+  allowed-south h = rw (lt-leb 1 r h)
+
+  pub allowed-north : rows ≤ r + 1 → false ≡ allowed columns rows r c
+  unfolding allowed
+  allowed-north h = rw (le-ltb (r + 1) rows h, and-false)
+
+  pub allowed-west : c < 2 → false ≡ allowed columns rows r c
+  unfolding allowed
+  allowed-west h = rw (lt-leb 2 c h, and-false)
+
+  pub allowed-east : 1 ≤ r → r + 1 < rows → 2 ≤ c → ltb (c + 2) columns ≡ allowed columns rows r c
+  unfolding allowed
+  allowed-east s n w = rw (le-leb 1 r s, lt-ltb (r + 1) rows n, le-leb 2 c w)
+
+module _ (columns rows i x : ℕ) where
+  pub place-fits : columns ≤ 64 → rows ≤ 64 → i < columns * rows → (0 < columns) × (i / columns < 64) × (i % columns < 64)
+  place-fits p q h = let f = place-of columns rows i h in (f .some, omega arith, omega arith)
+
+  pub sound-placed : x ≡ 0 → false ≡ misplacedAt columns rows i x
+  unfolding misplacedAt isBad
+  sound-placed e = rw e
+
+  pub fault-placed : {a : Bool} → (x ≡ 0 → ⊥) → a ≡ allowed columns rows (i / columns) (i % columns) → not a ≡ misplacedAt columns rows i x
+  unfolding misplacedAt
+  fault-placed h e = rw (← isBad-test x, ne-eqb x 0 h, e)
+
+-- what the first three refusals leave is what the last one asks
+pub sized : (columns rows : ℕ) (map : List ℕ) → badSize columns ≡ false → badSize rows ≡ false → badLength columns rows map ≡ false → Sized columns rows map
+sized columns rows map a b d = record { few-columns = good-size columns a; few-rows = good-size rows b; size = good-length columns rows map d }

@@ -1,0 +1,68 @@
+-- The papers' numbers for what is refused and what is wrong, and answers that return a number or refuse. Assumes nothing.
+use mathlib.Core.List.{List, _++_}
+use Prim.Native.Nat.{ℕ, zero, suc, _+_}
+use lib.ListN.{length, drop}
+use Rattle.mesh.specs.declared.Refusal.{Refusal}
+use Rattle.mesh.specs.declared.Refusal.the-variants.{Columns, Rows, MapLength, MapByte, FaultPlace, OffMesh, InBlock, OnRing, Unlawful, Room}
+use Rattle.mesh.specs.declared.Checked.{Checked}
+use Rattle.mesh.specs.declared.Checked.the-variants.{Clear, Refused}
+use Rattle.mesh.specs.declared.Mistake.{Mistake}
+use Rattle.mesh.specs.declared.Mistake.the-variants.{NoLetter, LeavesMesh, Reverses, ForbiddenTurn, EntersBlock, NotArrived}
+use Rattle.mesh.specs.declared.Tested.{Tested}
+use Rattle.mesh.specs.declared.Tested.the-variants.{Lawful, Wrong}
+
+-- the number of each refusal
+abbrev pub number : Refusal → ℕ
+number Columns = 1
+number Rows = 2
+number MapLength = 3
+number MapByte = 4
+number FaultPlace = 5
+number OffMesh = 6
+number InBlock = 7
+number OnRing = 8
+number Unlawful = 9
+number Room = 10
+
+-- 0 where none applies
+abbrev pub checkedNumber : Checked → ℕ
+checkedNumber Clear = 0
+checkedNumber (Refused r) = number r
+
+-- the number of each mistake in a hand-in
+abbrev pub mistakeNumber : Mistake → ℕ
+mistakeNumber NoLetter = 11
+mistakeNumber LeavesMesh = 12
+mistakeNumber Reverses = 13
+mistakeNumber ForbiddenTurn = 14
+mistakeNumber EntersBlock = 15
+mistakeNumber NotArrived = 16
+
+-- 0 where nothing is wrong with a hop
+abbrev pub testedNumber : Tested → ℕ
+testedNumber (Lawful p) = 0
+testedNumber (Wrong m) = mistakeNumber m
+
+-- an answer in the papers' terms: the number of a refusal, or what is returned
+pub data Answer : Type 0 where
+  refused : ℕ → Answer
+  returned : ℕ → Answer
+
+-- the refusal of that number, if it is not 0; else what is returned
+unfoldable pub answer : ℕ → ℕ → Answer
+answer zero n = returned n
+answer (suc k) n = refused (suc k)
+
+-- a refusal among other numbers: 65,536 plus its own
+unfoldable pub refusalCode : ℕ → ℕ
+refusalCode k = 65536 + k
+
+-- an answer as one number: what is returned, which is below 65,536, or the refusal
+abbrev pub answerCode : Answer → ℕ
+answerCode (returned n) = n
+answerCode (refused k) = refusalCode k
+
+-- what stands in an output: on a refusal no byte is changed; else what is written, and beyond it what was there
+unfoldable pub written : ℕ → List ℕ → List ℕ → List ℕ
+written zero new old = new ++ drop (length new) old
+written (suc k) new old = old

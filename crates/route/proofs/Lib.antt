@@ -1,4 +1,0 @@
-pub mod Following
-pub mod Requests
-pub mod Routed
-pub mod Mapped

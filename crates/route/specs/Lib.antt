@@ -1,2 +1,0 @@
-pub mod Following
-pub mod Marked

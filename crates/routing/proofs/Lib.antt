@@ -1,0 +1,2 @@
+pub mod Routed
+pub mod Mapped

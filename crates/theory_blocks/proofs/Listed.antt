@@ -1,0 +1,134 @@
+-- The list of blocks of a mesh whose marking no rule adds to: rectangles with free rings, which hold every bad node. Assumes nothing.
+use mathlib.Core.Path.{_≡_, refl}
+use mathlib.Core.Logic.{inl, inr}
+use mathlib.Core.Bool.{Bool, true}
+use mathlib.Core.List.{List·Memᴰ, List·Memᴰ·head, List·Memᴰ·tail, List·Memᴰ·not-nil, List·Memᴰ·cases-cons}
+use Prim.Native.Nat.{ℕ, zero, suc, _+_, _*_, _/_, _%_, _≤_, _<_}
+use native.Mathlib.Decide.{decLt}
+use native.Mathlib.Omega.{arith}
+use borrow.Author.Tests.{not-true}
+use lib.ListN.{length}
+use Rattle.mesh.specs.Mesh.{Mesh}
+use Rattle.mesh.specs.Nodes.{bad, ahead}
+use Rattle.mesh.specs.Blocks.{Block, corner, blockAt, select, blocks}
+use Rattle.mesh.proofs.Bools.{value, and-both, or-none}
+use Rattle.mesh.proofs.Index.{index-row, index-column, index-within, same-index}
+use Rattle.theory_blocks.specs.Marking.{Closed}
+use Rattle.theory_blocks.specs.Blocks.{Apart}
+use Rattle.theory_blocks.specs.Obstacles.{Listed, Walled, InBlock, Pairs, none, more}
+use Rattle.theory_blocks.proofs.Rules.{column, before, Settled, settled}
+use Rattle.theory_blocks.proofs.Marking.{bad-on-mesh}
+use Rattle.theory_blocks.proofs.Lines.{before-begins, begins-before}
+use Rattle.theory_blocks.proofs.Rectangles.{Corner, walled, home}
+use Rattle.theory_blocks.proofs.Apart.{walled-apart}
+
+-- What a list of selected values holds.
+module _ {A : Type 0} (t : ℕ → Bool) (f : ℕ → A) where
+  record Selected (i : ℕ) (a : A) : Type 0 where
+    pub index : ℕ
+    pub from : i ≤ index
+    pub test : t index ≡ true
+    pub is : a ≡ f index
+
+  mem-selected : (n i : ℕ) (a : A) → List·Memᴰ a (select t f n i) → Selected i a
+  unfolding select
+  mem-selected zero i a m = absurd (List·Memᴰ·not-nil m)
+  mem-selected (suc n) i a m =
+      elim (value (t i)) [
+        | inl e ↦
+            elim (List·Memᴰ·cases-cons (rw e at m))
+            [ inl q ↦ record { index = i; from = omega arith; test = e; is = q } | inr u ↦ later (mem-selected n (suc i) a u) ]
+        | inr e ↦ later (mem-selected n (suc i) a (rw e at m))
+      ]
+    where
+      later : Selected (suc i) a → Selected i a
+      later s = record { index = s .index; from = omega arith; test = s .test; is = s .is }
+
+  selected-mem : (n i j : ℕ) → i ≤ j → j < n + i → t j ≡ true → List·Memᴰ (f j) (select t f n i)
+  unfolding select
+  selected-mem zero i j p q e = absurd (omega arith)
+  selected-mem (suc n) i j p q e =
+      elim (decLt i j) [
+        | yes h ↦
+            let m = selected-mem n (suc i) j h (omega arith) e in
+            elim (value (t i)) [ inl u ↦ rw u (List·Memᴰ·tail m) | inr u ↦ rw u m ]
+        | no h ↦
+            let s : j ≡ i = omega arith in
+            rw (s, rw s at e) (List·Memᴰ·head refl)
+      ]
+
+  selected-pairs : (R : A → A → Type 0) → ((i j : ℕ) → i < j → t i ≡ true → t j ≡ true → R (f i) (f j)) → (n i : ℕ) → Pairs R (select t f n i)
+  unfolding select
+  selected-pairs R r zero i = none
+  selected-pairs R r (suc n) i =
+      elim (value (t i)) [
+        | inl e ↦
+            rw e
+            (more {a = f i}
+            (λ b m. let s = mem-selected n (suc i) b m in rw (s .is) (r i (s .index) (s .from) e (s .test)))
+            (selected-pairs R r n (suc i)))
+        | inr e ↦ rw e (selected-pairs R r n (suc i))
+      ]
+
+  select-few : (n i : ℕ) → length (select t f n i) ≤ n
+  unfolding select
+  select-few zero i = omega arith
+  select-few (suc n) i =
+      let few = select-few n (suc i) in
+      elim (value (t i)) [ inl e ↦ rw e (omega arith) | inr e ↦ rw e (omega arith) ]
+
+module _ (B : ℕ → ℕ → Bool) (r c : ℕ) where
+  corner-told : corner B r c ≡ true → Corner B r c
+  unfolding corner ahead
+  corner-told e =
+      let (a, d) = and-both {a = B r c} e in
+      let (w, s) = or-none (before (B r) 1 c) (before (column B c) 1 r) (not-true _ d) in
+      record { is-bad = a; west = before-begins (B r) c w; south = before-begins (column B c) r s }
+
+  corner-true : Corner B r c → corner B r c ≡ true
+  unfolding corner ahead
+  corner-true k = rw (k .is-bad, begins-before (B r) c (k .west), begins-before (column B c) r (k .south))
+
+-- no more blocks than nodes
+pub blocks-within : (w : Mesh) → length (blocks w) ≤ w .columns * w .rows
+unfolding blocks
+blocks-within w = select-few _ _ (w .columns * w .rows) 0
+
+module _ (w : Mesh) (closed : Closed (w .columns) (w .rows) (bad w)) where
+  at-rest : Settled (w .columns) (w .rows) (bad w)
+  at-rest = settled closed (bad-on-mesh w)
+
+  pub blocks-walled : (b : Block) → Listed b (blocks w) → Walled (bad w) b
+  unfolding blocks
+  blocks-walled b m =
+      let s = mem-selected _ _ _ 0 b m in
+      rw (s .is) (walled at-rest _ _ (corner-told (bad w) _ _ (s .test)))
+
+  pub bad-in-block : (x y : ℕ) → bad w x y ≡ true → InBlock (blocks w) x y
+  unfolding blocks
+  bad-in-block x y e =
+      let h = home at-rest x y e in
+      let p = bad-on-mesh w .row (h .row) (h .column) (h .is-corner .is-bad) in
+      let q = bad-on-mesh w .column (h .row) (h .column) (h .is-corner .is-bad) in
+      let u = index-row (w .columns) (h .row) (h .column) q in
+      let v = index-column (w .columns) (h .row) (h .column) q in
+      record {
+        block = blockAt (w .columns) (w .rows) (bad w) (h .row) (h .column);
+        listed =
+            rw (u, v) at
+            (selected-mem (λ i. corner (bad w) (i / w .columns) (i % w .columns))
+            (λ i. blockAt (w .columns) (w .rows) (bad w) (i / w .columns) (i % w .columns))
+            (w .columns * w .rows) 0 (h .row * w .columns + h .column) (omega arith)
+            (omega (arith, index-within (w .columns) (h .row) (h .column) q (w .rows) p))
+            (rw (u, v) (corner-true (bad w) (h .row) (h .column) (h .is-corner))));
+        within = h .within;
+      }
+
+  pub blocks-apart : Pairs Apart (blocks w)
+  unfolding blocks blockAt
+  blocks-apart =
+      selected-pairs _ _ Apart
+      (λ i j h t u.
+      walled-apart (walled at-rest _ _ (corner-told (bad w) _ _ t)) (walled at-rest _ _ (corner-told (bad w) _ _ u))
+      (λ p q. absurd (omega (arith, same-index (w .columns) i j p q))))
+      (w .columns * w .rows) 0

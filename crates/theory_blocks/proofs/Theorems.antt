@@ -1,0 +1,98 @@
+-- What is shown of the marking and the blocks of document 01. Each theorem is proved in the file that its proof cites. Assumes nothing.
+use mathlib.Core.Path.{_≡_, refl}
+use mathlib.Core.Logic.{_⊎_}
+use mathlib.Core.Bool.{Bool, false}
+use mathlib.Core.List.{List, [], _∷_}
+use Prim.Native.Nat.{ℕ, _-_, _*_, _≤_}
+use native.Mathlib.Omega.{arith}
+use lib.ListN.{length}
+use Rattle.mesh.specs.Mesh.{Mesh, mesh, onMesh}
+use Rattle.mesh.specs.Nodes.{isBad, bad, ahead, upright, ruleA, ruleB, unsafe}
+use Rattle.mesh.specs.Rounds.{become, advance, round, sameList, settle, marked}
+use Rattle.mesh.specs.Blocks.{run, corner, Block, blockAt, select, blocks}
+use Rattle.mesh.specs.Walk.{detours}
+use Rattle.mesh.specs.Maps.{allowed}
+use Rattle.mesh.proofs.Index.{few-nodes}
+use Rattle.mesh.proofs.Maps.{Accepted}
+use Rattle.theory_blocks.specs.Marking.{Closed, Holds}
+use Rattle.theory_blocks.specs.Blocks.{Unjoined, IsBlock, Within, OnRing, Fits, Apart}
+use Rattle.theory_blocks.specs.Obstacles.{Listed, IsListed, Pairs, ObstaclesOf}
+use Rattle.theory_blocks.proofs.Marking.{marked-closed, marked-holds, marked-least}
+use Rattle.theory_blocks.proofs.Apart.{listed-apart}
+use Rattle.theory_blocks.proofs.Connected.{walled-block, block-listed, apart-unjoined}
+use Rattle.theory_blocks.proofs.Listed.{blocks-walled, bad-in-block, blocks-apart, blocks-within}
+use Rattle.theory_blocks.proofs.Margins.{allowed-closed, walled-fits}
+use Rattle.theory_blocks.proofs.Area.{detours-bounded}
+
+-- Of any map with a number for each node.
+module _ (w : Mesh) (size : length (w .map) ≡ w .columns * w .rows) where
+  -- the marking holds the faults
+  pub marking-holds-faults : Holds (bad w) (bad (marked w))
+  marking-holds-faults = marked-holds w size
+
+  -- no rule adds to it
+  pub marking-is-closed : Closed (w .columns) (w .rows) (bad (marked w))
+  marking-is-closed = marked-closed w size
+
+  -- and every closed marking that holds the faults holds it
+  pub marking-is-least : (Q : ℕ → ℕ → Bool) → Closed (w .columns) (w .rows) Q → Holds (bad w) Q → Holds (bad (marked w)) Q
+  marking-is-least = marked-least w size
+
+  -- every block (a connected set of bad nodes to which no further one is joined) is a listed rectangle
+  pub blocks-are-rectangles : {Set : ℕ → ℕ → Type 0} → IsBlock (bad (marked w)) Set → IsListed (blocks (marked w)) Set
+  blocks-are-rectangles =
+      block-listed (blocks-walled (marked w) marking-is-closed) (bad-in-block (marked w) marking-is-closed)
+
+  -- every listed rectangle is a block
+  pub listed-are-blocks : (b : Block) → Listed b (blocks (marked w)) → IsBlock (bad (marked w)) (Within b)
+  listed-are-blocks b m = walled-block (blocks-walled (marked w) marking-is-closed b m)
+
+  -- at least 3 apart in column number or 2 in row number: each from each later one
+  pub blocks-are-apart : Pairs Apart (blocks (marked w))
+  blocks-are-apart = blocks-apart (marked w) marking-is-closed
+
+  -- and any two
+  pub any-blocks-are-apart : (a b : Block) → Listed a (blocks (marked w)) → Listed b (blocks (marked w)) → (a ≡ b) ⊎ Apart a b
+  any-blocks-are-apart = listed-apart blocks-are-apart
+
+  -- no listed block is joined to a later one: the list's length is the number of blocks
+  pub each-block-once : Pairs (Unjoined (bad (marked w))) (blocks (marked w))
+  each-block-once = apart-unjoined (blocks-walled (marked w) marking-is-closed) blocks-are-apart
+
+  -- no place of a ring is bad
+  pub ring-is-free : (b : Block) → Listed b (blocks (marked w)) → (x y : ℕ) → OnRing b x y → bad (marked w) x y ≡ false
+  ring-is-free b m = blocks-walled (marked w) marking-is-closed b m .ring
+
+  -- faults in the allowed places only: every ring fits the mesh
+  pub rings-fit : Holds (bad w) (allowed (w .columns) (w .rows)) → (b : Block) → Listed b (blocks (marked w)) → Fits (w .columns) (w .rows) b
+  rings-fit placed b m =
+      walled-fits (w .columns) (w .rows)
+      (marking-is-least (allowed (w .columns) (w .rows)) (allowed-closed (w .columns) (w .rows)) placed)
+      (blocks-walled (marked w) marking-is-closed b m)
+
+-- Of a map that refusals 1 to 5 let pass.
+module _ {columns rows : ℕ} {map : List ℕ} (a : Accepted columns rows map) where
+  -- all that routing needs of the marking and its blocks
+  pub obstacles : ObstaclesOf (marked (mesh columns rows map))
+  obstacles =
+      let w = mesh columns rows map in
+      let closed = marking-is-closed w (a .size) in
+      record {
+        walled = blocks-walled (marked w) closed;
+        in-block = bad-in-block (marked w) closed;
+        apart = blocks-apart (marked w) closed;
+        fits = rings-fit w (a .size) (record { holds = a .placed });
+      }
+
+  -- they are few: their number, beside refusals as 65,536 plus theirs, can't be taken for one
+  pub blocks-are-few : length (blocks (marked (mesh columns rows map))) ≤ 4096
+  blocks-are-few = omega (arith, blocks-within (marked (mesh columns rows map)), few-nodes columns rows (a .few-columns) (a .few-rows))
+
+  -- the bound on the detours round all blocks
+  pub detours-fit : detours (blocks (marked (mesh columns rows map))) ≤ (columns - 2) * (rows - 1)
+  detours-fit = detours-bounded obstacles
+
+-- It is reached: 5 columns by 3 rows with fault (1, 2).
+pub detours-fill : detours (blocks (marked (mesh 5 3 (0 ∷ 0 ∷ 0 ∷ 0 ∷ 0 ∷ 0 ∷ 0 ∷ 1 ∷ 0 ∷ 0 ∷ 0 ∷ 0 ∷ 0 ∷ 0 ∷ 0 ∷ [])))) ≡ (5 - 2) * (3 - 1)
+unfolding onMesh isBad bad ahead upright ruleA ruleB unsafe become advance round sameList settle run corner blockAt select blocks detours
+detours-fill = refl

@@ -1,0 +1,78 @@
+-- What it says that none of a request's refusals applies. Assumes nothing.
+use mathlib.Core.Path.{_≡_, sym, _∙_}
+use mathlib.Core.Bool.{false}
+use mathlib.Core.List.{List, _++_}
+use Prim.Native.Nat.{ℕ}
+use Rattle.mesh.specs.declared.Place.{Place}
+use Rattle.mesh.specs.Mesh.{Mesh, mesh}
+use Rattle.mesh.specs.Tests.{Test, first}
+use Rattle.mesh.specs.Rounds.{marked}
+use Rattle.mesh.specs.Blocks.{blocks}
+use Rattle.mesh.specs.Maps.{mapTests}
+use Rattle.mesh.specs.Requests.{inBlock, onARing, placeTests, tripTests, requestTests}
+use Rattle.mesh.proofs.Tests.{None, first-none, clear-before, clear-next}
+use Rattle.mesh.proofs.Maps.{map-numbered, accepted}
+use Rattle.mesh.proofs.Requests.{on-row, on-column, Placed, trip-numbered, placed, request}
+use Rattle.theory_blocks.proofs.Theorems.{obstacles}
+use Rattle.theory_walk.specs.Course.{Course, FreePlace, Served}
+use Rattle.theory_walk.proofs.Theorems.{destination-course, source-served}
+use Rattle.theory_judging.specs.Claims.{refusalOf, tripTo}
+use Rattle.theory_demands.specs.Demand3.{refusal1to8, requestRefusal}
+
+-- a request that refusals 1 to 8 let pass
+pub record Passed (columns rows : ℕ) (map : List ℕ) (s d : Place) : Type 0 where
+  pub map-passes : first (mapTests columns rows map) ≡ 0
+  pub placed : Placed (marked (mesh columns rows map)) s d
+  pub off-rings : onARing (marked (mesh columns rows map)) d ≡ false
+
+-- and one that 9 lets pass too
+pub record Clear (columns rows : ℕ) (map : List ℕ) (s d : Place) : Type 0 where
+  pub passed : Passed columns rows map s d
+  pub none : first (requestTests (marked (mesh columns rows map)) s d) ≡ 0
+
+module _ (columns rows : ℕ) (map : List ℕ) (s d : Place) where
+  abbrev w : Mesh
+  w = marked (mesh columns rows map)
+
+  -- refusals 1 to 5 do not apply, and none of the others
+  map-passes : (others : List Test) → first (mapTests columns rows map ++ others) ≡ 0 → (first (mapTests columns rows map) ≡ 0) × (first others ≡ 0)
+  map-passes others h =
+      let clear = clear-before (mapTests columns rows map) others h in
+      (clear, sym (clear-next (mapTests columns rows map) others (map-numbered columns rows map) clear) ∙ h)
+
+  pub passed-8 : refusal1to8 columns rows map s d ≡ 0 → Passed columns rows map s d
+  unfolding refusal1to8 tripTests placeTests None
+  passed-8 h =
+      let (clear, none) = map-passes (tripTests w s d) h in
+      let (_, (_, (off-rings, _))) = first-none (tripTests w s d) (trip-numbered w s d) none in
+      record { map-passes = clear; placed = placed w s d (clear-before (placeTests w s d) _ none); off-rings = off-rings }
+
+  pub passed-9 : requestRefusal columns rows map s d ≡ 0 → Clear columns rows map s d
+  unfolding requestRefusal
+  passed-9 h =
+      let (clear, none) = map-passes (requestTests w s d) h in
+      let q = request w s d none in
+      record { passed = record { map-passes = clear; placed = q .placed; off-rings = q .off-rings }; none = none }
+
+module _ {columns rows : ℕ} {map : List ℕ} {s d : Place} (p : Passed columns rows map s d) where
+  pub course-of : Course (tripTo columns rows map d) (blocks (marked (mesh columns rows map)))
+  course-of =
+      destination-course (marked (mesh columns rows map)) s d (obstacles (accepted (p .map-passes))) (p .placed) (p .off-rings)
+
+  pub free-source : FreePlace (tripTo columns rows map d) (s .row .0) (s .column .0)
+  unfolding inBlock
+  free-source =
+      let w = marked (mesh columns rows map) in
+      record { row = on-row w s (p .placed .source-on); column = on-column w s (p .placed .source-on); free = p .placed .source-free }
+
+  -- judging does not refuse it
+  pub judged-clear : refusalOf columns rows map s d ≡ 0
+  unfolding placeTests first
+  judged-clear =
+      clear-next (mapTests columns rows map) _ (map-numbered columns rows map) (p .map-passes) ∙
+      rw (p .placed .source-on, p .placed .destination-on, p .placed .source-free, p .placed .destination-free)
+
+pub served-of : {columns rows : ℕ} {map : List ℕ} {s d : Place} → Clear columns rows map s d → Served (tripTo columns rows map d) (s .row .0) (s .column .0)
+served-of {columns} {rows} {map} {s} {d} clear =
+    let w = marked (mesh columns rows map) in
+    source-served w s d (request w s d (clear .none))

@@ -1,0 +1,106 @@
+-- A single letter of a hand-in: what it names, and what is wrong with it. Assumes nothing.
+use mathlib.Core.Path.{_≡_, refl}
+use mathlib.Core.Logic.{_↔_, _≢_, inl, inr}
+use mathlib.Core.Bool.{Bool, true, false, not, cond, _&&_}
+use Prim.Native.Nat.{ℕ, suc, pred}
+use native.Mathlib.Omega.{arith}
+use borrow.Author.Tests.{eqb-true}
+use lib.Dec.{eqb}
+use Rattle.mesh.specs.declared.Heading.{Heading}
+use Rattle.mesh.specs.declared.Heading.the-variants.{East as E, North as N, South as S, West as W}
+use Rattle.mesh.specs.declared.Letter.the-variants.{Hop, Other}
+use Rattle.mesh.specs.Headings.{letter, named}
+use Rattle.mesh.specs.Tests.{first}
+use Rattle.mesh.specs.Turns.{turnsBack, turnsWrong, mayTurn}
+use Rattle.mesh.specs.Rules.{Trip, blocked}
+use Rattle.mesh.specs.Hops.{At, stays, lawful}
+use Rattle.mesh.specs.Judging.{hopTests, letterMistake}
+use Rattle.mesh.proofs.Bools.{true-false, value}
+use Rattle.theory_judging.specs.Claims.{NotLawful, no-letter, unlawful}
+
+pub letter-named : (h : Heading) → named (letter h) ≡ Hop h
+unfolding named
+letter-named E = refl
+letter-named N = refl
+letter-named S = refl
+letter-named W = refl
+
+-- a byte with what it names
+pub data Named (x : ℕ) : Type 0 where
+  is-hop : (h : Heading) → x ≡ letter h → Named x
+  is-other : named x ≡ Other → Named x
+
+pub name : (x : ℕ) → Named x
+unfolding named
+name x =
+    elim (value (eqb x (letter E))) [
+      | inl e ↦ is-hop E (eqb-true x _ e)
+      | inr e ↦
+          elim (value (eqb x (letter N))) [
+            | inl n ↦ is-hop N (eqb-true x _ n)
+            | inr n ↦
+                elim (value (eqb x (letter S))) [
+                  | inl s ↦ is-hop S (eqb-true x _ s)
+                  | inr s ↦
+                      elim (value (eqb x (letter W)))
+                      [ inl t ↦ is-hop W (eqb-true x _ t) | inr t ↦ is-other (rw (e, n, s, t)) ]
+                ]
+          ]
+    ]
+
+pub named-hop : (x : ℕ) (h : Heading) → named x ≡ Hop h → x ≡ letter h
+named-hop x h e =
+    elim (name x) [
+      | is-hop g s ↦
+          let n : named x ≡ Hop g = rw s (letter-named g) in
+          let same : g ≡ h = cc in
+          rw (← same) s
+      | is-other o ↦ cc
+    ]
+
+-- the four tests of a hop in the order of their numbers, against the order of the definition of lawful
+mistake : Bool → Bool → Bool → Bool → ℕ
+mistake s v t b = cond (not s) 12 (cond v 13 (cond t 14 (cond b 15 0)))
+
+neither : (k : ℕ) → suc k ≡ 0 ↔ false ≡ true
+neither k = (λ e. absurd (omega arith), λ e. true-false e refl)
+
+mistake-none : (s v t b : Bool) → mistake s v t b ≡ 0 ↔ s && (not b && (not v && not t)) ≡ true
+unfolding mistake
+mistake-none false v t b = neither 11
+mistake-none true true t true = neither 12
+mistake-none true true t false = neither 12
+mistake-none true false true true = neither 13
+mistake-none true false true false = neither 13
+mistake-none true false false true = neither 14
+mistake-none true false false false = (λ e. refl, λ e. refl)
+
+module _ (t : Trip) (p : At) where
+  pub no-mistake-lawful : (h : Heading) → letterMistake t p (Hop h) ≡ 0 ↔ lawful t p h ≡ true
+  unfolding letterMistake hopTests first lawful mayTurn mistake
+  no-mistake-lawful h =
+      mistake-none
+      (stays (t .columns) (t .rows) h (p .row) (p .column))
+      (turnsBack (p .last) h)
+      (turnsWrong (t .west) (p .column) (p .last) h)
+      (blocked t h 1 (p .row) (p .column))
+
+  -- a letter is a lawful hop, or it is not and has a mistake
+  pub data Examined (x : ℕ) : Type 0 where
+    good : (h : Heading) → x ≡ letter h → lawful t p h ≡ true → Examined x
+    mistaken : (k : ℕ) → letterMistake t p (named x) ≡ suc k → NotLawful t p x → Examined x
+
+  pub examine : (x : ℕ) → Examined x
+  unfolding letterMistake
+  examine x =
+      elim (name x) [
+        | is-other e ↦ mistaken 10 (rw e) (no-letter e)
+        | is-hop h e ↦
+            elim (value (lawful t p h)) [
+              | inl l ↦ good h e l
+              | inr l ↦
+                  let n : named x ≡ Hop h = rw e (letter-named h) in
+                  let some : letterMistake t p (Hop h) ≢ 0 = λ z. true-false (no-mistake-lawful h .0 z) l in
+                  mistaken (pred (letterMistake t p (Hop h))) (rw n (omega arith)) (unlawful h n l)
+            ]
+      ]

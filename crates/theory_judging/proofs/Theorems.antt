@@ -1,0 +1,74 @@
+-- What is shown of judging a hand-in. Each theorem is proved in the file that its proof cites. Assumes nothing.
+use mathlib.Core.Path.{_≡_, _∙_}
+use mathlib.Core.Logic.{_↔_}
+use mathlib.Core.Bool.{true}
+use mathlib.Core.List.{List}
+use Prim.Native.Nat.{ℕ, suc, _+_}
+use native.Mathlib.Nat.{zero-add}
+use lib.ListN.{length}
+use Rattle.mesh.specs.declared.Heading.{Heading}
+use Rattle.mesh.specs.declared.Letter.the-variants.{Hop}
+use Rattle.mesh.specs.declared.Place.{Place}
+use Rattle.mesh.specs.Headings.{letter, letters, named}
+use Rattle.mesh.specs.Rules.{Trip}
+use Rattle.mesh.specs.Hops.{At, fresh, lawful}
+use Rattle.mesh.specs.Walk.{lawfulRoute}
+use Rattle.mesh.specs.Judging.{letterMistake, passed, failed, judge, judgement}
+use Rattle.theory_judging.specs.Claims.{LawfulHandIn, FailedAt, refusalOf, tripTo}
+use Rattle.theory_judging.proofs.Letters.{letter-named, named-hop, no-mistake-lawful}
+use Rattle.theory_judging.proofs.Judged.{route-passed, passed-lawful, failed-told, told-failed, clear-judged, refused-judged, passed-clear}
+
+-- a heading's letter names it
+pub named-letter : (h : Heading) → named (letter h) ≡ Hop h
+named-letter = letter-named
+
+-- and no other byte does
+pub only-letter-named : (x : ℕ) (h : Heading) → named x ≡ Hop h → x ≡ letter h
+only-letter-named = named-hop
+
+-- Of any mesh with its bad nodes, either parity, and any packet p on it.
+module _ (t : Trip) (p : At) where
+  -- a letter has no mistake exactly if its hop is lawful
+  pub letter-lawful : (h : Heading) → letterMistake t p (Hop h) ≡ 0 ↔ lawful t p h ≡ true
+  letter-lawful = no-mistake-lawful t p
+
+  -- a hand-in is passed exactly if it spells a lawful route; the number is then its length, counted from i
+  pub passed-is-lawful : (i n : ℕ) (xs : List ℕ) → judge t p i xs ≡ passed n ↔ (LawfulHandIn t p xs × (n ≡ i + length xs))
+  passed-is-lawful = passed-lawful t p
+
+  -- it fails at index j with number k exactly if the letters before j are lawful hops in turn, and after them k is wrong:
+  -- the letter of index j is no lawful hop and k is its mistake, or there is none, the packet is not at the destination and k is 16
+  pub failed-at : (i : ℕ) (xs : List ℕ) (k j : ℕ) → judge t p i xs ≡ failed k j ↔ FailedAt t p i xs k j
+  failed-at i xs k j = (failed-told t p i xs, told-failed t p i xs)
+
+  -- every lawful route is passed, with its number of hops
+  pub route-is-passed : (hs : List Heading) → lawfulRoute t p hs ≡ true → judge t p 0 (letters hs) ≡ passed (length hs)
+  route-is-passed hs e = route-passed t p 0 hs e ∙ rw zero-add
+
+-- Of the operation.
+module _ (columns rows : ℕ) (map : List ℕ) (s d : Place) where
+  -- the first of refusals 1 to 7 that applies is the answer, with index 0
+  pub refused-is-told : (xs : List ℕ) (k : ℕ) → refusalOf columns rows map s d ≡ suc k → judgement columns rows map s d xs ≡ failed (suc k) 0
+  refused-is-told xs k = refused-judged columns rows map s d xs
+
+  -- where a hand-in is passed, none applies
+  pub passed-is-clear : (xs : List ℕ) (n : ℕ) → judgement columns rows map s d xs ≡ passed n → refusalOf columns rows map s d ≡ 0
+  passed-is-clear xs n = passed-clear columns rows map s d xs
+
+  -- Where none applies:
+  module _ (clear : refusalOf columns rows map s d ≡ 0) where
+    -- passed exactly if the hand-in spells a lawful route from source to destination on the marked mesh, with its length
+    pub judgement-is-lawful : (xs : List ℕ) (n : ℕ) → judgement columns rows map s d xs ≡ passed n ↔ (LawfulHandIn (tripTo columns rows map d) (fresh s) xs × (n ≡ length xs))
+    judgement-is-lawful xs n =
+        rw (clear-judged columns rows map s d xs clear, ← zero-add (length xs))
+        (passed-is-lawful (tripTo columns rows map d) (fresh s) 0 n xs)
+
+    -- else failed, at the first letter that is no lawful hop, or at the end
+    pub judgement-failed-at : (xs : List ℕ) (k j : ℕ) → judgement columns rows map s d xs ≡ failed k j ↔ FailedAt (tripTo columns rows map d) (fresh s) 0 xs k j
+    judgement-failed-at xs k j =
+        rw (clear-judged columns rows map s d xs clear) (failed-at (tripTo columns rows map d) (fresh s) 0 xs k j)
+
+    -- every lawful route is passed, with its number of hops
+    pub judgement-of-route : (hs : List Heading) → lawfulRoute (tripTo columns rows map d) (fresh s) hs ≡ true → judgement columns rows map s d (letters hs) ≡ passed (length hs)
+    judgement-of-route hs e =
+        clear-judged columns rows map s d (letters hs) clear ∙ route-is-passed (tripTo columns rows map d) (fresh s) hs e

@@ -1,0 +1,61 @@
+-- What is shown of a judged hand-in (document 01, "Judge a hand-in"): xs are its bytes, t and p are what the hop rules look at. Assumes nothing.
+use mathlib.Core.Path.{_≡_}
+use mathlib.Core.Bool.{Bool, true, false, _&&_}
+use mathlib.Core.List.{List, [], _∷_, _++_}
+use Prim.Native.Nat.{ℕ, _-_, _≤_, _<_}
+use lib.ListN.{length, getD, take}
+use Rattle.mesh.specs.declared.Heading.{Heading}
+use Rattle.mesh.specs.declared.Letter.the-variants.{Hop, Other}
+use Rattle.mesh.specs.declared.Place.{Place}
+use Rattle.mesh.specs.Mesh.{mesh}
+use Rattle.mesh.specs.Headings.{letters, named}
+use Rattle.mesh.specs.Tests.{first}
+use Rattle.mesh.specs.Rounds.{marked}
+use Rattle.mesh.specs.Rules.{Trip, tripOn}
+use Rattle.mesh.specs.Hops.{At, moved, lawful}
+use Rattle.mesh.specs.Walk.{arrived, lawfulRoute}
+use Rattle.mesh.specs.Maps.{mapTests}
+use Rattle.mesh.specs.Requests.{placeTests}
+use Rattle.mesh.specs.Judging.{letterMistake}
+
+-- each of the hops is lawful in turn; unlike a lawful route, they may end anywhere
+unfoldable pub lawfulHops : Trip → At → List Heading → Bool
+lawfulHops t p [] = true
+lawfulHops t p (h ∷ hs) = lawful t p h && lawfulHops t (moved h p) hs
+
+-- the bytes are the letters of a lawful route from p
+pub record LawfulHandIn (t : Trip) (p : At) (xs : List ℕ) : Type 0 where
+  pub hops : List Heading
+  pub spelled : letters hops ≡ xs
+  pub route : lawfulRoute t p hops ≡ true
+
+-- the packet after the hops
+unfoldable pub after : List Heading → At → At
+after [] p = p
+after (h ∷ hs) p = after hs (moved h p)
+
+-- a byte that is no lawful hop of a packet at p: no letter, or the letter of a hop that is not lawful
+pub data NotLawful (t : Trip) (p : At) (x : ℕ) : Type 0 where
+  no-letter : named x ≡ Other → NotLawful t p x
+  unlawful : (h : Heading) → named x ≡ Hop h → lawful t p h ≡ false → NotLawful t p x
+
+-- what is wrong where n letters have brought the packet to p: the letter of index n, by the number k of its mistake; or the end, by 16
+pub data WentWrong (t : Trip) (p : At) (xs : List ℕ) (n k : ℕ) : Type 0 where
+  at-letter : n < length xs → NotLawful t p (getD xs n 0) → k ≡ letterMistake t p (named (getD xs n 0)) → WentWrong t p xs n k
+  at-end : n ≡ length xs → arrived t p ≡ false → k ≡ 16 → WentWrong t p xs n k
+
+-- with the first letter at index i: the letters before index j are lawful hops in turn, and after them k is wrong
+pub record FailedAt (t : Trip) (p : At) (i : ℕ) (xs : List ℕ) (k j : ℕ) : Type 0 where
+  pub hops : List Heading
+  pub begun : i ≤ j
+  pub spelled : letters hops ≡ take (j - i) xs
+  pub hops-lawful : lawfulHops t p hops ≡ true
+  pub wrong : WentWrong t (after hops p) xs (j - i) k
+
+-- The arguments of the operation: the number of the first of refusals 1 to 7 that applies, or 0;
+abbrev pub refusalOf : ℕ → ℕ → List ℕ → Place → Place → ℕ
+refusalOf columns rows map s d = first (mapTests columns rows map ++ placeTests (marked (mesh columns rows map)) s d)
+
+-- and the marked mesh with the destination.
+abbrev pub tripTo : ℕ → ℕ → List ℕ → Place → Trip
+tripTo columns rows map d = tripOn (marked (mesh columns rows map)) d
