@@ -63,6 +63,7 @@ module _ (columns rows : ℕ) (marks : List ℕ) (p : Place) (m : Marking column
       unfolding someNear upright ahead
       ring-none f o = rw (← ring-rows, ← is-x, no-x, ← is-y, f, lt-leb 1 _ o)
 
-      pub ring-south : {z : Bool} → y ≡ false → 1 ≤ p .row .0 → z ≡ rowNear (bad (mesh columns rows marks)) (p .row .0 - 1) (p .column .0) → z ≡ onARing (mesh columns rows marks) p
+      pub ring-south : {z : Bool} → y ≡ false → 1 ≤ p .row .0 →
+          z ≡ rowNear (bad (mesh columns rows marks)) (p .row .0 - 1) (p .column .0) → z ≡ onARing (mesh columns rows marks) p
       unfolding someNear upright ahead
       ring-south f o is-z = rw (← ring-rows, ← is-x, no-x, ← is-y, f, le-leb 1 _ o) is-z

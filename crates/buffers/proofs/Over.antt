@@ -43,7 +43,8 @@ unfolding over
 puts-nothing out at h = record { next = omega arith; stands = refl; fits = h }
 
 -- one thing after another
-pub puts-append : {out : List ℕ} {at : ℕ} {ys : List ℕ} {x : ℕ} {mid zs : List ℕ} {x′ : ℕ} {after : List ℕ} → Puts out at ys x mid → Puts mid x zs x′ after → Puts out at (ys ++ zs) x′ after
+pub puts-append : {out : List ℕ} {at : ℕ} {ys : List ℕ} {x : ℕ} {mid zs : List ℕ} {x′ : ℕ} {after : List ℕ} → Puts out at ys x mid →
+    Puts mid x zs x′ after → Puts out at (ys ++ zs) x′ after
 puts-append {out} {at} {ys} {x} {mid} {zs} {x′} {after} p q =
     record {
       next = q .next ∙ omega (arith, p .next, length-append ys zs);

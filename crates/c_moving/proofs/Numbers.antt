@@ -29,7 +29,8 @@ five (u ∷ v ∷ w ∷ x ∷ y ∷ z ∷ zs) h = absurd (omega arith)
 pub filled : (xs : List ℕ) (a b c d e : ℕ) → length xs ≡ 5 → set (set (set (set (set xs 0 a) 1 b) 2 c) 3 d) 4 e ≡ a ∷ b ∷ c ∷ d ∷ e ∷ []
 filled xs a b c d e h = ap (λ ys. set (set (set (set (set ys 0 a) 1 b) 2 c) 3 d) 4 e) (sym (five xs h))
 
-pub moves : {columns rows x : ℕ} {map xs after : List ℕ} {p q : Packet} {m : Moved} → isRecord xs ≡ true → p ≡ packetOf xs → MovesOn columns rows map p m q → after ≡ numbersOf q → x ≡ toldCode (movedTold m) → MovesInNumbers columns rows map xs x after
+pub moves : {columns rows x : ℕ} {map xs after : List ℕ} {p q : Packet} {m : Moved} → isRecord xs ≡ true → p ≡ packetOf xs →
+    MovesOn columns rows map p m q → after ≡ numbersOf q → x ≡ toldCode (movedTold m) → MovesInNumbers columns rows map xs x after
 moves t ep m ea e =
     record { answers = rw (t, ← ep) (e ∙ ap toldCode (m .answers)); leaves = rw (t, ← ep) (ea ∙ ap numbersOf (m .leaves)) }
 

@@ -24,7 +24,8 @@ use Rattle.mesh.specs.Judging.{hopTests, letterMistake}
 use Rattle.hops.specs.Tests.{Tests}
 
 -- the node ahead is where a hop that stays on the mesh leads
-ahead-after : (B : ℕ → ℕ → Bool) (columns rows r c : ℕ) (h : Heading) → stays columns rows h r c ≡ true → ahead B h 1 r c ≡ B (rowAfter h r) (columnAfter h c)
+ahead-after : (B : ℕ → ℕ → Bool) (columns rows r c : ℕ) (h : Heading) → stays columns rows h r c ≡ true →
+    ahead B h 1 r c ≡ B (rowAfter h r) (columnAfter h c)
 unfolding stays ahead rowAfter columnAfter
 ahead-after B columns rows r c E s = refl
 ahead-after B columns rows r c N s = refl
@@ -53,7 +54,8 @@ module _ (w : Mesh) (p : Packet) (h : Heading) where
         unfolding letterMistake hopTests first
         turns-wrong e = wrong ForbiddenTurn (rw (on-mesh, ← is-b, ahead, ← is-t, e))
 
-        module _ (may : t ≡ false) {q : Packet} (is-q : q ≡ movedPacket h p) {x : Bool} (is-x : x ≡ bad w (q .place .row .0) (q .place .column .0)) where
+        module _ (may : t ≡ false) {q : Packet} (is-q : q ≡ movedPacket h p) {x : Bool}
+            (is-x : x ≡ bad w (q .place .row .0) (q .place .column .0)) where
           is-blocked : x ≡ blocked (tripOf w p) h 1 (p .place .row .0) (p .place .column .0)
           unfolding blocked moved
           is-blocked =

@@ -55,7 +55,8 @@ ahead-free B S i r c e = rw (e, and-false)
 ahead-free B W i r c e = rw (e, and-false)
 
 -- the node i hops that way, on the mesh, is bad
-pub ahead-bad : (B : ℕ → ℕ → Bool) (h : Heading) {i r c : ℕ} → (h ≡ S → i ≤ r) → (h ≡ W → i ≤ c) → B (rowBy h i r) (columnBy h i c) ≡ true → ahead B h i r c ≡ true
+pub ahead-bad : (B : ℕ → ℕ → Bool) (h : Heading) {i r c : ℕ} → (h ≡ S → i ≤ r) → (h ≡ W → i ≤ c) →
+    B (rowBy h i r) (columnBy h i c) ≡ true → ahead B h i r c ≡ true
 unfolding ahead rowBy columnBy
 ahead-bad B E s w e = e
 ahead-bad B N s w e = e
@@ -88,7 +89,8 @@ module _ {columns rows : ℕ} {h : Heading} {n r c : ℕ} (f : Reaches columns r
         west = λ e. omega (arith, f .west e);
       }
 
-pub reaches-on : {columns rows : ℕ} (h : Heading) {n r c : ℕ} → Reaches columns rows h n r c → (i : ℕ) → i ≤ n → (rowBy h i r < rows) × (columnBy h i c < columns)
+pub reaches-on : {columns rows : ℕ} (h : Heading) {n r c : ℕ} → Reaches columns rows h n r c → (i : ℕ) → i ≤ n →
+    (rowBy h i r < rows) × (columnBy h i c < columns)
 unfolding rowBy columnBy
 reaches-on E f i le = (f .row, omega (arith, f .east refl))
 reaches-on N f i le = (omega (arith, f .north refl), f .column)

@@ -46,16 +46,19 @@ pub record Judging (w : Mesh) (packet p : Packet) (xs : List ℕ) (n i : ℕ) : 
   pub rest : judge (tripOf w packet) (at packet) 0 xs ≡ judge (tripOf w p) (at p) i (drop i xs)
 
 module _ (w : Mesh) (packet : Packet) (xs : List ℕ) where
-  pub judging-start : OnMesh (w .columns) (w .rows) (w .map) (packet .place .row .0) (packet .place .column .0) → Judging w packet packet xs (length xs) 0
+  pub judging-start : OnMesh (w .columns) (w .rows) (w .map) (packet .place .row .0) (packet .place .column .0) →
+      Judging w packet packet xs (length xs) 0
   judging-start on = record { within = omega arith; all = refl; on-mesh = on; same = refl; rest = refl }
 
   module _ {p : Packet} {n i : ℕ} (s : Judging w packet p xs n i) where
     module _ (h : i < n) where
-      rest-letter : {l : Letter} → l ≡ named (getD xs i 0) → judge (tripOf w packet) (at packet) 0 xs ≡ unless (letterMistake (tripOf w p) (at p) l) i (judge (tripOf w p) (follow l (at p)) (suc i) (drop (suc i) xs))
+      rest-letter : {l : Letter} → l ≡ named (getD xs i 0) →
+          judge (tripOf w packet) (at packet) 0 xs ≡ unless (letterMistake (tripOf w p) (at p) l) i (judge (tripOf w p) (follow l (at p)) (suc i) (drop (suc i) xs))
       unfolding judge
       rest-letter e = let within : i < length xs = omega (arith, s .all) in s .rest ∙ rw (drop-cons xs i 0 within, e)
 
-      pub judging-other : {l : Letter} → l ≡ named (getD xs i 0) → l ≡ Other → failed (mistakeNumber NoLetter) i ≡ judge (tripOf w packet) (at packet) 0 xs
+      pub judging-other : {l : Letter} → l ≡ named (getD xs i 0) → l ≡ Other →
+          failed (mistakeNumber NoLetter) i ≡ judge (tripOf w packet) (at packet) 0 xs
       unfolding letterMistake unless
       judging-other e o = sym (rest-letter e ∙ rw o)
 

@@ -50,5 +50,6 @@ module _ (columns rows i x : ℕ) where
   fault-placed h e = rw (← isBad-test x, ne-eqb x 0 h, e)
 
 -- what the first three refusals leave is what the last one asks
-pub sized : (columns rows : ℕ) (map : List ℕ) → badSize columns ≡ false → badSize rows ≡ false → badLength columns rows map ≡ false → Sized columns rows map
+pub sized : (columns rows : ℕ) (map : List ℕ) → badSize columns ≡ false → badSize rows ≡ false → badLength columns rows map ≡ false →
+    Sized columns rows map
 sized columns rows map a b d = record { few-columns = good-size columns a; few-rows = good-size rows b; size = good-length columns rows map d }

@@ -56,14 +56,16 @@ module _ (columns rows : ℕ) (map : List ℕ) (clear : first (mapTests columns 
     front-sized = rw (front, e) marked-sized
 
 module _ (columns rows : ℕ) (map : List ℕ) where
-  pub map-not-marked : {x : Checked} (why : Refusal) (after : List ℕ) → x ≡ checks.Refused why → checkedNumber x ≡ first (mapTests columns rows map) → MarksMap columns rows map (checks.Refused why) after
+  pub map-not-marked : {x : Checked} (why : Refusal) (after : List ℕ) → x ≡ checks.Refused why →
+      checkedNumber x ≡ first (mapTests columns rows map) → MarksMap columns rows map (checks.Refused why) after
   map-not-marked why after e h =
       record {
         checks = ap checkedNumber (sym e) ∙ h;
         marks = λ q. let z = ap checkedNumber q in absurd (omega (arith, number-some why));
       }
 
-  pub map-marked : {new : List ℕ} (rest : List ℕ) → first (mapTests columns rows map) ≡ 0 → new ≡ marked (mesh columns rows map) .map → MarksMap columns rows map checks.Clear (new ++ rest)
+  pub map-marked : {new : List ℕ} (rest : List ℕ) → first (mapTests columns rows map) ≡ 0 →
+      new ≡ marked (mesh columns rows map) .map → MarksMap columns rows map checks.Clear (new ++ rest)
   map-marked rest clear e = record { checks = sym clear; marks = λ q. front columns rows map clear e rest ∙ e }
 
   -- what an operation on a marking starts from
@@ -94,7 +96,8 @@ module _ (columns rows : ℕ) (map out : List ℕ) where
         writes = rw e (sym (written-refused why _ _));
       }
 
-  pub map-refused : {x : Checked} {why : Refusal} → x ≡ checks.Refused why → checkedNumber x ≡ first (mapTests columns rows map) → MarksBlocks columns rows map out (Refused why) out
+  pub map-refused : {x : Checked} {why : Refusal} → x ≡ checks.Refused why → checkedNumber x ≡ first (mapTests columns rows map) →
+      MarksBlocks columns rows map out (Refused why) out
   unfolding markRefusal
   map-refused {why = why} e told = refused why (told-refused (mapTests columns rows map) room told e)
 
@@ -106,7 +109,9 @@ module _ (columns rows : ℕ) (map out : List ℕ) where
     pub room-refused : length out < length map → MarksBlocks columns rows map out (Refused Room) out
     room-refused h = refused Room (only-room ∙ ap (λ b. cond b 10 0) (lt-ltb _ _ h))
 
-    pub marks-done : {n : ℕ} {new : List ℕ} → length map ≤ length out → new ≡ marked (mesh columns rows map) .map → n ≡ length (blocks (mesh columns rows (take (length map) (new ++ drop (length map) out)))) → MarksBlocks columns rows map out (Blocks n) (new ++ drop (length map) out)
+    pub marks-done : {n : ℕ} {new : List ℕ} → length map ≤ length out → new ≡ marked (mesh columns rows map) .map →
+        n ≡ length (blocks (mesh columns rows (take (length map) (new ++ drop (length map) out)))) →
+        MarksBlocks columns rows map out (Blocks n) (new ++ drop (length map) out)
     unfolding answer written
     marks-done h e q =
         let none = only-room ∙ ap (λ b. cond b 10 0) (le-ltb _ _ h) in

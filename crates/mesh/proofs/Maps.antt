@@ -36,7 +36,8 @@ good-bytes : (xs : List ℕ) → badByte xs ≡ false → (i : ℕ) → i < leng
 unfolding badByte
 good-bytes xs e i h = ltb-false 1 _ (none-passes (λ i x. ltb 1 x) 0 xs e i h)
 
-well-placed : (columns rows : ℕ) (xs : List ℕ) → misplaced columns rows xs ≡ false → (i : ℕ) → i < length xs → isBad (getD xs i 0) ≡ true → allowed columns rows (i / columns) (i % columns) ≡ true
+well-placed : (columns rows : ℕ) (xs : List ℕ) → misplaced columns rows xs ≡ false → (i : ℕ) → i < length xs →
+    isBad (getD xs i 0) ≡ true → allowed columns rows (i / columns) (i % columns) ≡ true
 unfolding misplaced misplacedAt
 well-placed columns rows xs e i h b =
     not-false _ (and-right (isBad (getD xs i 0)) _ b (rw zero-add at (none-passes (misplacedAt columns rows) 0 xs e i h)))

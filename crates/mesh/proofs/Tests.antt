@@ -29,7 +29,8 @@ unfolding first
 first-some k [] us h = absurd (omega arith)
 first-some k (t ∷ ts) us h = by (t .holds) (first-some k ts us) h
   where
-    by : (b : Bool) → (first ts ≡ suc k → first (ts ++ us) ≡ suc k) → cond b (t .number) (first ts) ≡ suc k → cond b (t .number) (first (ts ++ us)) ≡ suc k
+    by : (b : Bool) → (first ts ≡ suc k → first (ts ++ us) ≡ suc k) → cond b (t .number) (first ts) ≡ suc k →
+        cond b (t .number) (first (ts ++ us)) ≡ suc k
     by true rest h = h
     by false rest h = rest h
 

@@ -87,5 +87,9 @@ starred =
     []
 
 pub starred-hold : T (allHold starred)
-unfolding starred allHold holds A B C refusal bytes edges onMesh rowAfter columnAfter letters turnsWest first isBad bad ahead upright ruleA ruleB unsafe become advance round sameList settle run corner blockAt select blocks reaches onRing onSomeRing blocked side toward own stopped again atDestination inRow leaving across nearing otherRow hop moved arrived hopAt walk shutIn distance detours bound badSize badLength some badByte allowed misplacedAt misplaced mapTests offMesh inBlock onARing unserved placeTests tripTests requestTests hopsOf sendTests routeRefusal
+unfolding starred allHold holds A B C refusal bytes edges onMesh rowAfter columnAfter letters turnsWest first isBad bad ahead
+    upright ruleA ruleB unsafe become advance round sameList settle run corner blockAt select blocks reaches onRing onSomeRing
+    blocked side toward own stopped again atDestination inRow leaving across nearing otherRow hop moved arrived hopAt walk
+    shutIn distance detours bound badSize badLength some badByte allowed misplacedAt misplaced mapTests offMesh inBlock onARing
+    unserved placeTests tripTests requestTests hopsOf sendTests routeRefusal
 starred-hold = tt

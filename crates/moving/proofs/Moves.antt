@@ -74,7 +74,8 @@ module _ (w : Mesh) (p : Packet) where
     moves-next s = rw clear s
 
 module _ (columns rows : ℕ) (map : List ℕ) (p : Packet) {x : Checked} {marks : List ℕ} (s : MarksMap columns rows map x marks) where
-  moves-on : {m : Moved} {after : Packet} → Moves (moveRefusal columns rows map p) (marked (mesh columns rows map)) p m after → MovesOn columns rows map p m after
+  moves-on : {m : Moved} {after : Packet} → Moves (moveRefusal columns rows map p) (marked (mesh columns rows map)) p m after →
+      MovesOn columns rows map p m after
   moves-on a = record { answers = a .answers; leaves = a .leaves }
 
   pub map-refused : {why : Refusal} → x ≡ checks.Refused why → MovesOn columns rows map p (moves.Refused why) p

@@ -68,6 +68,7 @@ module _ (B : ℕ → ℕ → Bool) (k r c : ℕ) {h : Heading} where
   ahead-off-west e o = rw (e, lt-leb k c o)
 
 -- a place that refusal 6 lets pass
-pub on-mesh : (columns rows : ℕ) (map : List ℕ) (p : Place) → Sized columns rows map → offMesh (mesh columns rows map) p ≡ false → OnMesh columns rows map (p .row .0) (p .column .0)
+pub on-mesh : (columns rows : ℕ) (map : List ℕ) (p : Place) → Sized columns rows map → offMesh (mesh columns rows map) p ≡ false →
+    OnMesh columns rows map (p .row .0) (p .column .0)
 on-mesh columns rows map p s on =
     record { sized = s; row = on-row (mesh columns rows map) p on; column = on-column (mesh columns rows map) p on }

@@ -23,7 +23,9 @@ copied-none xs ys start =
 
 -- one number more
 module _ (xs ys now : List ℕ) (start i : ℕ) {x : Bool} (t : Copied xs ys start i x now) (s : start ≤ i) (h : i < length now) where
-  more : (x′ : Bool) → (x′ ≡ false → (j : ℕ) → start ≤ j → j < i + 1 → getD xs j 0 ≡ getD ys j 0) → (x′ ≡ true → ((j : ℕ) → start ≤ j → j < i + 1 → getD xs j 0 ≡ getD ys j 0) → ⊥) → Copied xs ys start (i + 1) x′ (set now i (getD xs i 0))
+  more : (x′ : Bool) → (x′ ≡ false → (j : ℕ) → start ≤ j → j < i + 1 → getD xs j 0 ≡ getD ys j 0) →
+      (x′ ≡ true → ((j : ℕ) → start ≤ j → j < i + 1 → getD xs j 0 ≡ getD ys j 0) → ⊥) →
+      Copied xs ys start (i + 1) x′ (set now i (getD xs i 0))
   more x′ same differ =
       record {
         size = length-set now i (getD xs i 0) ∙ t .size;

@@ -45,7 +45,8 @@ pub record RowDone (w : Mesh) (r : ℕ) (before : List ℕ) (x : Bool) (now : Li
   pub differ : x ≡ true → Settled w r → ⊥
 
 module _ {w : Mesh} {r : ℕ} {any : Bool} {changed now : List ℕ} (t : Copying w r any changed now) (p : r < w .rows) where
-  module _ {next due after : List ℕ} {x : Bool} (d : DueAfter w due (w .rows) next) (o : OthersSettled w due) (u : RowCopied (w .columns) r next due now x after) where
+  module _ {next due after : List ℕ} {x : Bool} (d : DueAfter w due (w .rows) next) (o : OthersSettled w due)
+      (u : RowCopied (w .columns) r next due now x after) where
     row-kept : getD due r 0 ≡ 0 → RowDone w r now x after
     row-kept z =
         let s = o .settled r p z in
@@ -90,8 +91,10 @@ module _ {w : Mesh} {r : ℕ} {any : Bool} {changed now : List ℕ} (t : Copying
 
   -- one row more
   module _ {after : List ℕ} {x : Bool} (u : RowDone w r now x after) where
-    module _ (any′ : Bool) (changed′ : List ℕ) (zero : getD changed′ r 0 ≡ 0 → Settled w r) (back : Settled w r → getD changed′ r 0 ≡ 0) (kept : (q : ℕ) → q < r → getD changed′ q 0 ≡ getD changed q 0) where
-      copying-more : (any′ ≡ false → (q : ℕ) → q < r + 1 → Settled w q) → (any′ ≡ true → ((q : ℕ) → q < w .rows → Settled w q) → ⊥) → Copying w (r + 1) any′ changed′ after
+    module _ (any′ : Bool) (changed′ : List ℕ) (zero : getD changed′ r 0 ≡ 0 → Settled w r)
+        (back : Settled w r → getD changed′ r 0 ≡ 0) (kept : (q : ℕ) → q < r → getD changed′ q 0 ≡ getD changed q 0) where
+      copying-more : (any′ ≡ false → (q : ℕ) → q < r + 1 → Settled w q) → (any′ ≡ true → ((q : ℕ) → q < w .rows → Settled w q) → ⊥) →
+          Copying w (r + 1) any′ changed′ after
       copying-more same differ =
           record {
             size = u .size ∙ t .size;
@@ -134,7 +137,8 @@ module _ {w : Mesh} {r : ℕ} {any : Bool} {changed now : List ℕ} (t : Copying
         (λ g q l. elim (decLt q r) [ yes b ↦ t .same g q b | no b ↦ let k : q ≡ r = omega arith in rw k (u .same e) ])
         (t .differ))
 
-pub copying-all : {w : Mesh} {r : ℕ} {any : Bool} {changed now : List ℕ} → length (w .map) ≡ w .columns * w .rows → r ≡ w .rows → Copying w r any changed now → Rounded w any changed now
+pub copying-all : {w : Mesh} {r : ℕ} {any : Bool} {changed now : List ℕ} → length (w .map) ≡ w .columns * w .rows → r ≡ w .rows →
+    Copying w r any changed now → Rounded w any changed now
 copying-all {w} {r} size e t =
     record {
       copy = round-by-rows w size _ (t .size) (λ q c p k. t .new q c (omega arith) k);

@@ -34,7 +34,8 @@ settling-start columns rows n xs s h =
       rests = λ e. true-false refl e;
     }
 
-module _ {columns rows : ℕ} {xs changed changed′ now next : List ℕ} {x x′ : Bool} (s : Settling columns rows xs x changed now) (t : Rounded (mesh columns rows now) x′ changed′ next) where
+module _ {columns rows : ℕ} {xs changed changed′ now next : List ℕ} {x x′ : Bool} (s : Settling columns rows xs x changed now)
+    (t : Rounded (mesh columns rows now) x′ changed′ next) where
   pub settling-more : Settling columns rows xs x′ changed′ next
   settling-more =
       record {

@@ -12,7 +12,8 @@ use Rattle.mesh.proofs.Index.{few-nodes, index-within}
 use Rattle.nodes.specs.Sized.{Sized}
 use Rattle.rounds.specs.Rounds.{nodeAfter, RowAfter, DueAfter, OthersSettled, Near, Spread, QuietSettled}
 
-pub row-fits : {columns rows r : ℕ} {map : List ℕ} → Sized columns rows map → r < rows → (r * columns + columns ≤ length map) × (r * columns + columns ≤ 4096)
+pub row-fits : {columns rows r : ℕ} {map : List ℕ} → Sized columns rows map → r < rows →
+    (r * columns + columns ≤ length map) × (r * columns + columns ≤ 4096)
 row-fits {columns} {rows} {r} s h =
     let below : (r + 1) * columns ≤ rows * columns = mul-le-mul-right columns (omega arith) in
     let few = few-nodes columns rows (s .few-columns) (s .few-rows) in
@@ -22,7 +23,8 @@ row-fits {columns} {rows} {r} s h =
 pub row-none : (w : Mesh) (r : ℕ) (ys : List ℕ) → RowAfter w r 0 ys ys
 row-none w r ys = record { size = refl; old = λ j h. refl; new = λ c h. absurd (omega arith) }
 
-pub row-more : (w : Mesh) (r c : ℕ) (xs ys : List ℕ) (v : ℕ) → RowAfter w r c xs ys → r * w .columns + c < length ys → v ≡ nodeAfter w r c → RowAfter w r (c + 1) xs (set ys (r * w .columns + c) v)
+pub row-more : (w : Mesh) (r c : ℕ) (xs ys : List ℕ) (v : ℕ) → RowAfter w r c xs ys → r * w .columns + c < length ys →
+    v ≡ nodeAfter w r c → RowAfter w r (c + 1) xs (set ys (r * w .columns + c) v)
 row-more w r c xs ys v t h e =
     let i = r * w .columns + c in
     record {
@@ -86,7 +88,8 @@ module _ (rows : ℕ) (changed : List ℕ) where
   pub spread-none : (due : List ℕ) → Spread rows changed 0 due
   spread-none due = record { near = λ r h. absurd (omega arith) }
 
-  pub spread-more : (r : ℕ) (due : List ℕ) (x : ℕ) → Spread rows changed r due → r < length due → Near rows changed r x → Spread rows changed (r + 1) (set due r x)
+  pub spread-more : (r : ℕ) (due : List ℕ) (x : ℕ) → Spread rows changed r due → r < length due → Near rows changed r x →
+      Spread rows changed (r + 1) (set due r x)
   spread-more r due x t h n =
       record {
         near =

@@ -24,7 +24,8 @@ module _ (w : Mesh) (size : length (w .map) ≡ w .columns * w .rows) where
       let i : r * w .columns + c < length (w .map) = rw size (index-within (w .columns) r c q (w .rows) p) in
       rw (getD-advance _ 0 (w .map) (r * w .columns + c) i, zero-add, index-row (w .columns) r c q, index-column (w .columns) r c q)
 
-  pub round-by-rows : (ys : List ℕ) → length ys ≡ w .columns * w .rows → ((r c : ℕ) → r < w .rows → c < w .columns → getD ys (r * w .columns + c) 0 ≡ nodeAfter w r c) → ys ≡ round w
+  pub round-by-rows : (ys : List ℕ) → length ys ≡ w .columns * w .rows →
+      ((r c : ℕ) → r < w .rows → c < w .columns → getD ys (r * w .columns + c) 0 ≡ nodeAfter w r c) → ys ≡ round w
   round-by-rows ys e h =
       ext-getD 0 ys (round w) (e ∙ sym size ∙ sym (round-length w))
       (λ j l.
@@ -39,13 +40,16 @@ module _ (w : Mesh) (size : length (w .map) ≡ w .columns * w .rows) where
       record { rests = λ c q. sym (round-at r c p q) ∙ ap (λ m. getD m (r * w .columns + c) 0) e }
 
 -- The rules look at the node's own row and at those beside it.
-module _ (A B : ℕ → ℕ → Bool) (r : ℕ) (here : (c : ℕ) → A r c ≡ B r c) (south : (c : ℕ) → A (r - 1) c ≡ B (r - 1) c) (north : (c : ℕ) → A (r + 1) c ≡ B (r + 1) c) where
+module _ (A B : ℕ → ℕ → Bool) (r : ℕ) (here : (c : ℕ) → A r c ≡ B r c) (south : (c : ℕ) → A (r - 1) c ≡ B (r - 1) c)
+    (north : (c : ℕ) → A (r + 1) c ≡ B (r + 1) c) where
   unsafe-alike : (c : ℕ) → unsafe A r c ≡ unsafe B r c
   unfolding unsafe ruleA ruleB upright ahead
   unsafe-alike c = rw (here (c + 1), here (c - 1), here (c + 2), here (c - 2), south c, north c)
 
 module _ (w : Mesh) (m : List ℕ) where
-  bad-alike : (r : ℕ) → (r < w .rows → (c : ℕ) → c < w .columns → getD m (r * w .columns + c) 0 ≡ getD (w .map) (r * w .columns + c) 0) → (c : ℕ) → bad (on w m) r c ≡ bad w r c
+  bad-alike : (r : ℕ) →
+      (r < w .rows → (c : ℕ) → c < w .columns → getD m (r * w .columns + c) 0 ≡ getD (w .map) (r * w .columns + c) 0) → (c : ℕ) →
+      bad (on w m) r c ≡ bad w r c
   unfolding bad onMesh
   bad-alike r h c =
       elim (decLt r (w .rows)) [
@@ -58,7 +62,8 @@ module _ (w : Mesh) (m : List ℕ) where
       ]
 
 -- a row is settled after a round if it and the rows beside it were
-settled-next : (w : Mesh) → length (w .map) ≡ w .columns * w .rows → (r : ℕ) → r < w .rows → Settled w r → Settled w (r - 1) → (r + 1 < w .rows → Settled w (r + 1)) → Settled (on w (round w)) r
+settled-next : (w : Mesh) → length (w .map) ≡ w .columns * w .rows → (r : ℕ) → r < w .rows → Settled w r → Settled w (r - 1) →
+    (r + 1 < w .rows → Settled w (r + 1)) → Settled (on w (round w)) r
 unfolding nodeAfter
 settled-next w size r p here south north =
     let alike : (q : ℕ) → (q < w .rows → Settled w q) → (c : ℕ) → bad (on w (round w)) q c ≡ bad w q c = λ q s. bad-alike w (round w) q (λ l c k. round-at w size q c l k ∙ s l .rests c k) in
@@ -69,7 +74,8 @@ settled-next w size r p here south north =
           (here .rests c k);
     }
 
-pub quiet-settled : {w : Mesh} {x : Bool} {changed now : List ℕ} → length (w .map) ≡ w .columns * w .rows → Rounded w x changed now → QuietSettled (on w now) changed
+pub quiet-settled : {w : Mesh} {x : Bool} {changed now : List ℕ} → length (w .map) ≡ w .columns * w .rows → Rounded w x changed now →
+    QuietSettled (on w now) changed
 quiet-settled {w} size t =
     record {
       settled =

@@ -26,7 +26,8 @@ module _ (columns rows : ℕ) (map : List ℕ) (s d : Place) (out : List ℕ) {x
       let told = marks-refused columns rows map m (sendTests (marked (mesh columns rows map)) s d out) e in
       record { answers = rw told (sym (answer-refused why _)); writes = rw told (sym (written-refused why _ _)) }
 
-  pub marked-routed : (e : x ≡ checks.Clear) {r : Routed} {after : List ℕ} → RoutesOn (mesh columns rows (take (length map) marks)) s d out r after → Routes columns rows map s d out r after
+  pub marked-routed : (e : x ≡ checks.Clear) {r : Routed} {after : List ℕ} →
+      RoutesOn (mesh columns rows (take (length map) marks)) s d out r after → Routes columns rows map s d out r after
   unfolding routeRefusal
   marked-routed e r =
       let r′ = rw (m .marks e) at r in

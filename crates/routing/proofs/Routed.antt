@@ -71,7 +71,8 @@ module _ (w : Mesh) (s d : Place) (out : List ℕ) where
   refused why e =
       record { answers = rw e (sym (answer-refused why _)); writes = rw e (sym (written-refused why _ _)) }
 
-  pub request-refused : {x : Checked} {why : Refusal} → x ≡ checks.Refused why → checkedNumber x ≡ first (requestTests w s d) → RoutesOn w s d out (Refused why) out
+  pub request-refused : {x : Checked} {why : Refusal} → x ≡ checks.Refused why → checkedNumber x ≡ first (requestTests w s d) →
+      RoutesOn w s d out (Refused why) out
   unfolding sendTests
   request-refused {why = why} e told = refused why (told-refused (requestTests w s d) room told e)
 
@@ -85,7 +86,8 @@ module _ (w : Mesh) (s d : Place) (out : List ℕ) where
         let short : length out < length (hopsOf w s d) = rw (← is-hs) (leb-false (length hs) (length out) h) in
         refused Room (only-room ∙ ap (λ b. cond b 10 0) (lt-ltb _ _ short))
 
-    pub routed : {n : ℕ} {after : List ℕ} → leb (length hs) (length out) ≡ true → n ≡ 0 + length hs → after ≡ over out 0 (letters hs) → RoutesOn w s d out (Hops n) after
+    pub routed : {n : ℕ} {after : List ℕ} → leb (length hs) (length out) ≡ true → n ≡ 0 + length hs →
+        after ≡ over out 0 (letters hs) → RoutesOn w s d out (Hops n) after
     unfolding answer written
     routed h counts writes =
         let fits : length (hopsOf w s d) ≤ length out = rw (← is-hs) (leb-true (length hs) (length out) h) in

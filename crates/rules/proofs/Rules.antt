@@ -114,7 +114,8 @@ module _ (t : Trip) (r c : ℕ) where
     nearing-again f = rw (← ex, f)
 
   -- rules 3 and 5: the last hop leads toward R exactly if it is that way
-  toward-or-away : (h : Heading) → same h N || same h S ≡ true → otherRow t r c (made h) ≡ cond (same h (toward t r)) (nearing t r c h) (leaving t r c h)
+  toward-or-away : (h : Heading) → same h N || same h S ≡ true →
+      otherRow t r c (made h) ≡ cond (same h (toward t r)) (nearing t r c h) (leaving t r c h)
   unfolding otherRow toward same
   toward-or-away E v = true-false v refl
   toward-or-away N v = elim (value (ltb r (t .R))) [ inl e ↦ rw e | inr e ↦ rw e ]

@@ -76,7 +76,8 @@ pairs-map (a ∷ rest) f (more h p) =
     (pairs-map rest (λ a b m n. f a b (List·Memᴰ·tail m) (List·Memᴰ·tail n)) p)
 
 -- any two members, in either order
-pub pairs-any : {A : Type 0} {R : A → A → Type 0} → ((a b : A) → R a b → R b a) → (l : List A) → Pairs R l → (a b : A) → List·Memᴰ a l → List·Memᴰ b l → (a ≡ b) ⊎ R a b
+pub pairs-any : {A : Type 0} {R : A → A → Type 0} → ((a b : A) → R a b → R b a) → (l : List A) → Pairs R l → (a b : A) →
+    List·Memᴰ a l → List·Memᴰ b l → (a ≡ b) ⊎ R a b
 pairs-any turn [] none a b m n = absurd (List·Memᴰ·not-nil m)
 pairs-any turn (d ∷ rest) (more h p) a b m n =
     elim (List·Memᴰ·cases-cons m) [

@@ -91,7 +91,8 @@ record Room (columns rows : ℕ) (g : ℕ → ℕ → ℕ) (b : Block) : Type 0 
   pub room : (x y : ℕ) → Within (grown b) x y → 1 ≤ g x y
 
 module _ (columns rows : ℕ) where
-  area-fits : (bs : List Block) → Pairs Disjoint bs → (g : ℕ → ℕ → ℕ) → ((b : Block) → Listed b bs → Room columns rows g b) → area bs ≤ sum rows (λ x. sum columns (g x))
+  area-fits : (bs : List Block) → Pairs Disjoint bs → (g : ℕ → ℕ → ℕ) → ((b : Block) → Listed b bs → Room columns rows g b) →
+      area bs ≤ sum rows (λ x. sum columns (g x))
   unfolding area share
   area-fits [] p g m = omega arith
   area-fits (b ∷ bs) (more h p) g m =

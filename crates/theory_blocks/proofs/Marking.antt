@@ -51,7 +51,8 @@ bad-on-mesh w =
       column = λ r c e. ltb-true c (w .columns) (and-both {a = ltb r (w .rows)} (and-both e .0) .1);
     }
 
-pub bad-round : (w : Mesh) → length (w .map) ≡ w .columns * w .rows → (r c : ℕ) → r < w .rows → c < w .columns → bad (on w (round w)) r c ≡ bad w r c || unsafe (bad w) r c
+pub bad-round : (w : Mesh) → length (w .map) ≡ w .columns * w .rows → (r c : ℕ) → r < w .rows → c < w .columns →
+    bad (on w (round w)) r c ≡ bad w r c || unsafe (bad w) r c
 unfolding bad onMesh round
 bad-round w size r c p q =
     let i : r * w .columns + c < length (w .map) = rw size (index-within (w .columns) r c q (w .rows) p) in
@@ -160,7 +161,9 @@ module _ (w : Mesh) (size : length (w .map) ≡ w .columns * w .rows) where
       }
 
   -- what is kept by each round of a map of the mesh's size
-  marked-keeps : (M : (ℕ → ℕ → Bool) → Type 0) → ((m : List ℕ) → length m ≡ w .columns * w .rows → M (bad (on w m)) → M (bad (on w (round (on w m))))) → M (bad w) → M (bad (marked w))
+  marked-keeps : (M : (ℕ → ℕ → Bool) → Type 0) →
+      ((m : List ℕ) → length m ≡ w .columns * w .rows → M (bad (on w m)) → M (bad (on w (round (on w m))))) → M (bad w) →
+      M (bad (marked w))
   marked-keeps M f i =
       settle-keeps (λ m. (length m ≡ w .columns * w .rows) × M (bad (on w m))) (suc (w .columns * w .rows)) w
       (λ m (e, i). (round-length (on w m) ∙ e, f m e i)) (size, i) .1

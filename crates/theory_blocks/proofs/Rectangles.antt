@@ -25,7 +25,8 @@ pub record Corner (B : ℕ → ℕ → Bool) (r c : ℕ) : Type 0 where
 
 -- The lines from r on that hold c, all of them as long as the first.
 module _ (line : ℕ → ℕ → Bool) (alike : (x : ℕ) → Alike (line x) (line (suc x))) (r c h k : ℕ) where
-  spans : Begins (line r) c → ((x y : ℕ) → k ≤ y → line x y ≡ false) → (x : ℕ) → r ≤ x → x < run h (column line c) r + r → Spans (line x) c (run k (line r) c)
+  spans : Begins (line r) c → ((x y : ℕ) → k ≤ y → line x y ≡ false) → (x : ℕ) → r ≤ x → x < run h (column line c) r + r →
+      Spans (line x) c (run k (line r) c)
   spans b out x p q =
       let s = same line alike k c r x p (λ z u v. run-holds (column line c) h r z u (omega arith)) in
       record {

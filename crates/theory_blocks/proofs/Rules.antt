@@ -153,7 +153,8 @@ module _ {columns rows : ℕ} {B : ℕ → ℕ → Bool} (closed : Closed column
 
   module _ (on-mesh : OnMesh columns rows B) where
     -- (x, c) and (r, y) are bad, next to (r, c) and one or two from it
-    fills : (r c x y : ℕ) → B x c ≡ true → B r y ≡ true → (x ≡ r → ⊥) × (r ≤ x + 1) × (x ≤ r + 1) × (y ≡ c → ⊥) × (c ≤ y + 2) × (y ≤ c + 2) → B r c ≡ true
+    fills : (r c x y : ℕ) → B x c ≡ true → B r y ≡ true →
+        (x ≡ r → ⊥) × (r ≤ x + 1) × (x ≤ r + 1) × (y ≡ c → ⊥) × (c ≤ y + 2) × (y ≤ c + 2) → B r c ≡ true
     fills r c x y p q (n, l, h, n′, l′, h′) =
         unsafe-holds r c (on-mesh .row r y q) (on-mesh .column x c p)
         (reason-unsafe B r c

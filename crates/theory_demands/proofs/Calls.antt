@@ -102,7 +102,8 @@ module _ {columns rows : ℕ} {map : List ℕ} {s d : Place} (clear : Clear colu
       ]
 
   -- the calls when k letters have been returned
-  pub goes : (k : ℕ) {p : Packet} {calls : List Call} → k ≤ length hs → p ≡ shown k → Calls columns rows map p calls → Goes columns rows map s d k calls
+  pub goes : (k : ℕ) {p : Packet} {calls : List Call} → k ≤ length hs → p ≡ shown k → Calls columns rows map p calls →
+      Goes columns rows map s d k calls
   goes k h stands no-calls = no-more
   goes k h stands (same keeps e calls) =
       elim (decLe (suc k) (length hs)) [

@@ -25,11 +25,13 @@ each-holds (x ∷ xs) t zero c h = both (holds x) (allHold xs) t .0
 each-holds (x ∷ xs) t (suc k) c h = each-holds xs (both (holds x) (allHold xs) t .1) k c (omega arith)
 
 -- a request that Route serves with some output
-served-clear : (columns rows : ℕ) (map : List ℕ) (s d : Place) (out : List ℕ) (k : ℕ) → requestRefusal columns rows map s d ≡ k → routeRefusal columns rows map s d out ≡ 0 → k ≡ 0
+served-clear : (columns rows : ℕ) (map : List ℕ) (s d : Place) (out : List ℕ) (k : ℕ) → requestRefusal columns rows map s d ≡ k →
+    routeRefusal columns rows map s d out ≡ 0 → k ≡ 0
 served-clear columns rows map s d out zero e h = refl
 served-clear columns rows map s d out (suc k) e h = let f = refused-before columns rows map s d out e in absurd (omega arith)
 
-pub case-served : (faults : List (ℕ × ℕ)) (s d : ℕ × ℕ) (expect : String) → T (holds (routes faults s d expect)) → Demand3 10 8 (faultMap faults) (place s) (place d)
+pub case-served : (faults : List (ℕ × ℕ)) (s d : ℕ × ℕ) (expect : String) → T (holds (routes faults s d expect)) →
+    Demand3 10 8 (faultMap faults) (place s) (place d)
 unfolding holds refusal
 case-served faults s d expect t =
     let h = eqb→eq (refusal faults s d) 0 (both (eqb (refusal faults s d) 0) _ t .0) in

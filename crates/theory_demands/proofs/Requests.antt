@@ -72,7 +72,8 @@ module _ {columns rows : ℕ} {map : List ℕ} {s d : Place} (p : Passed columns
       clear-next (mapTests columns rows map) _ (map-numbered columns rows map) (p .map-passes) ∙
       rw (p .placed .source-on, p .placed .destination-on, p .placed .source-free, p .placed .destination-free)
 
-pub served-of : {columns rows : ℕ} {map : List ℕ} {s d : Place} → Clear columns rows map s d → Served (tripTo columns rows map d) (s .row .0) (s .column .0)
+pub served-of : {columns rows : ℕ} {map : List ℕ} {s d : Place} → Clear columns rows map s d →
+    Served (tripTo columns rows map d) (s .row .0) (s .column .0)
 served-of {columns} {rows} {map} {s} {d} clear =
     let w = marked (mesh columns rows map) in
     source-served w s d (request w s d (clear .none))

@@ -30,7 +30,8 @@ returned-refused {ℓ} : {A : Type ℓ} {n k : ℕ} → returned n ≡ Answer.re
 returned-refused e = let z : _≡_ {A = ℕ} 0 1 = cc in absurd (omega arith)
 
 -- None applies.
-module _ {columns rows : ℕ} {map : List ℕ} {s d : Place} (clear : Clear columns rows map s d) {out : List ℕ} {r : Routed} {after : List ℕ} (does : Routes columns rows map s d out r after) where
+module _ {columns rows : ℕ} {map : List ℕ} {s d : Place} (clear : Clear columns rows map s d) {out : List ℕ} {r : Routed}
+    {after : List ℕ} (does : Routes columns rows map s d out r after) where
   abbrev hs : List Heading
   hs = hops columns rows map s d
 
@@ -81,6 +82,7 @@ module _ (columns rows : ℕ) (map : List ℕ) (s d : Place) (out : List ℕ) {k
   unfolding requestRefusal routeRefusal sendTests
   refused-before = rw (← append-assoc) (first-some k (mapTests columns rows map ++ requestTests (marked (mesh columns rows map)) s d) _ e)
 
-  pub refused-given : {r : Routed} {after : List ℕ} → Routes columns rows map s d out r after → (routedAnswer r ≡ Answer.refused (suc k)) × (after ≡ out)
+  pub refused-given : {r : Routed} {after : List ℕ} → Routes columns rows map s d out r after →
+      (routedAnswer r ≡ Answer.refused (suc k)) × (after ≡ out)
   unfolding answer written
   refused-given does = (does .answers ∙ rw refused-before, does .writes ∙ rw refused-before)

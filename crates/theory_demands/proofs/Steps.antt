@@ -34,7 +34,8 @@ pub there-refused {ℓ} : {A : Type ℓ} {k : ℕ} → there ≡ Told.refused k 
 there-refused e = let z : _≡_ {A = ℕ} 0 1 = cc in absurd (omega arith)
 
 -- the record after a call that is refused for its hop, by the two tests
-still-by : (a b : Bool) (x : ℕ) (q p : Packet) {k : ℕ} → cond a there (cond b (hopped x) (Told.refused 9)) ≡ Told.refused k → cond (not a && b) q p ≡ p
+still-by : (a b : Bool) (x : ℕ) (q p : Packet) {k : ℕ} → cond a there (cond b (hopped x) (Told.refused 9)) ≡ Told.refused k →
+    cond (not a && b) q p ≡ p
 still-by true b x q p e = there-refused e
 still-by false true x q p e = hopped-refused e
 still-by false false x q p e = refl
@@ -51,7 +52,8 @@ refused-still {columns} {rows} {map} {p} keeps e =
     keeps .leaves ∙ still (moveRefusal columns rows map p) (marked (mesh columns rows map)) p (sym (keeps .answers) ∙ e)
 
 -- A call on the record of a packet at a free place a, on its way to d.
-module _ {columns rows : ℕ} {map : List ℕ} {s d : Place} (passed : Passed columns rows map s d) (a : At) (free : FreePlace (tripTo columns rows map d) (a .row) (a .column)) where
+module _ {columns rows : ℕ} {map : List ℕ} {s d : Place} (passed : Passed columns rows map s d) (a : At)
+    (free : FreePlace (tripTo columns rows map d) (a .row) (a .column)) where
   -- refusals 1 to 8 do not apply
   none-applies : moveRefusal columns rows map (packetAt a d) ≡ 0
   unfolding moveRefusal tripTests placeTests first offMesh inBlock onMesh

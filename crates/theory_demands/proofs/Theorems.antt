@@ -79,5 +79,6 @@ module _ (columns rows : ℕ) (map : List ℕ) (s d : Place) where
       walks.refusal-9 (course-of p) (s .row .0) (s .column .0) (free-source p) (walks.turns-west-no-edge (marked (mesh columns rows map)) d _ _)
 
 -- the test of a call holds exactly if it was given the same mesh and map
-pub same-given : (columns rows : ℕ) (map : List ℕ) (c : Call) → isSame columns rows map c ≡ true ↔ ((c .columns ≡ columns) × (c .rows ≡ rows) × (c .map ≡ map))
+pub same-given : (columns rows : ℕ) (map : List ℕ) (c : Call) →
+    isSame columns rows map c ≡ true ↔ ((c .columns ≡ columns) × (c .rows ≡ rows) × (c .map ≡ map))
 same-given = is-same

@@ -148,7 +148,8 @@ module _ (t : Trip) where
   told-here p i (x ∷ xs) k (at-letter l u e) = rw e (judge-wrong p i x xs u)
   told-here p i (x ∷ xs) k (at-end l a e) = absurd (omega arith)
 
-  told-later : (p : At) (i : ℕ) (hs : List Heading) (xs : List ℕ) (n k : ℕ) → letters hs ≡ take n xs → lawfulHops t p hs ≡ true → WentWrong t (after hs p) xs n k → judge t p i xs ≡ failed k (i + n)
+  told-later : (p : At) (i : ℕ) (hs : List Heading) (xs : List ℕ) (n k : ℕ) → letters hs ≡ take n xs → lawfulHops t p hs ≡ true →
+      WentWrong t (after hs p) xs n k → judge t p i xs ≡ failed k (i + n)
   unfolding letters lawfulHops after
   told-later p i [] xs zero k e l u = rw add-zero (told-here p i xs k u)
   told-later p i [] [] (suc n) k e l (at-letter m u f) = absurd (omega arith)

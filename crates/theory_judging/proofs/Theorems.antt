@@ -58,17 +58,20 @@ module _ (columns rows : ℕ) (map : List ℕ) (s d : Place) where
   -- Where none applies:
   module _ (clear : refusalOf columns rows map s d ≡ 0) where
     -- passed exactly if the hand-in spells a lawful route from source to destination on the marked mesh, with its length
-    pub judgement-is-lawful : (xs : List ℕ) (n : ℕ) → judgement columns rows map s d xs ≡ passed n ↔ (LawfulHandIn (tripTo columns rows map d) (fresh s) xs × (n ≡ length xs))
+    pub judgement-is-lawful : (xs : List ℕ) (n : ℕ) →
+        judgement columns rows map s d xs ≡ passed n ↔ (LawfulHandIn (tripTo columns rows map d) (fresh s) xs × (n ≡ length xs))
     judgement-is-lawful xs n =
         rw (clear-judged columns rows map s d xs clear, ← zero-add (length xs))
         (passed-is-lawful (tripTo columns rows map d) (fresh s) 0 n xs)
 
     -- else failed, at the first letter that is no lawful hop, or at the end
-    pub judgement-failed-at : (xs : List ℕ) (k j : ℕ) → judgement columns rows map s d xs ≡ failed k j ↔ FailedAt (tripTo columns rows map d) (fresh s) 0 xs k j
+    pub judgement-failed-at : (xs : List ℕ) (k j : ℕ) →
+        judgement columns rows map s d xs ≡ failed k j ↔ FailedAt (tripTo columns rows map d) (fresh s) 0 xs k j
     judgement-failed-at xs k j =
         rw (clear-judged columns rows map s d xs clear) (failed-at (tripTo columns rows map d) (fresh s) 0 xs k j)
 
     -- every lawful route is passed, with its number of hops
-    pub judgement-of-route : (hs : List Heading) → lawfulRoute (tripTo columns rows map d) (fresh s) hs ≡ true → judgement columns rows map s d (letters hs) ≡ passed (length hs)
+    pub judgement-of-route : (hs : List Heading) → lawfulRoute (tripTo columns rows map d) (fresh s) hs ≡ true →
+        judgement columns rows map s d (letters hs) ≡ passed (length hs)
     judgement-of-route hs e =
         clear-judged columns rows map s d (letters hs) clear ∙ route-is-passed (tripTo columns rows map d) (fresh s) hs e

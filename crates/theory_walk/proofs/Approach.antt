@@ -29,7 +29,8 @@ bad-bit true u e h = refl
 bad-bit false u e h = absurd (omega arith)
 
 -- a block that holds the next node toward the row, and not (r, c), lies wholly before r
-before-by : {t : Trip} {a : Heading} {k r c : ℕ} {b : Block} → Off t r (suc k) a → Within b (rowAfter (opposite a) r) c → (Within b r c → ⊥) → before a r b ≡ true
+before-by : {t : Trip} {a : Heading} {k r c : ℕ} {b : Block} → Off t r (suc k) a → Within b (rowAfter (opposite a) r) c →
+    (Within b r c → ⊥) → before a r b ≡ true
 unfolding rowAfter opposite before
 before-by {r = r} {b = b} (north e) i out = le-leb (b .height + b .row) r (le-by-contradiction (λ no. out (omega arith)))
 before-by {r = r} {b = b} (south e) i out = lt-ltb r (b .row) (le-by-contradiction (λ no. out (omega arith)))
@@ -65,7 +66,8 @@ module _ {t : Trip} {bs : List Block} (course : Course t bs) where
       (land k (record { off = off-in (m .off); free = e; turn = m .turn; gap-east = m .gap-east; gap-west = m .gap-west; falls = omega arith }))
 
   -- two columns west to pass the block over or under the packet
-  go-west : {a : Heading} {l : Last} {k g r c n : ℕ} → Approaching t bs a (suc k) g r c (suc n) → Permits t c l W → t .bad (rowAfter (opposite a) r) c ≡ true →
+  go-west : {a : Heading} {l : Last} {k g r c n : ℕ} → Approaching t bs a (suc k) g r c (suc n) → Permits t c l W →
+      t .bad (rowAfter (opposite a) r) c ≡ true →
       Next t bs n r c l W
   go-west {a} {l} {k} {g} {r} {c} {n} m to e =
       let h = course .obstacles .in-block (rowAfter (opposite a) r) c e in
@@ -87,13 +89,15 @@ module _ {t : Trip} {bs : List Block} (course : Course t bs) where
         falls = rw two (omega arith);
       }))
 
-  pub approaching-step : {a : Heading} {l : Last} {k g r c n : ℕ} → Across l W → Approaching t bs a (suc k) g r c (suc n) → Next t bs n r c l (hop t r c l)
+  pub approaching-step : {a : Heading} {l : Last} {k g r c n : ℕ} → Across l W → Approaching t bs a (suc k) g r c (suc n) →
+      Next t bs n r c l (hop t r c l)
   approaching-step {a} {l} {r = r} {c = c} {n = n} x m =
       by-across (Next t bs n r c l) c x (m .off)
       (λ z e. go-on m (across-in t c x (upright-opposite (upright (m .off))) z) e)
       (λ h. go-west m (across-on t c x) (bad-bit _ _ (m .turn) h))
 
-  pub approaching-on-step : {a : Heading} {k g r c n : ℕ} → Approaching t bs a (suc k) g r c (suc n) → Next t bs n r c (made (opposite a)) (hop t r c (made (opposite a)))
+  pub approaching-on-step : {a : Heading} {k g r c n : ℕ} → Approaching t bs a (suc k) g r c (suc n) →
+      Next t bs n r c (made (opposite a)) (hop t r c (made (opposite a)))
   approaching-on-step {a} {r = r} {c = c} {n = n} m =
       by-nearing (Next t bs n r c (made (opposite a))) c (m .off)
       (go-west m (turn-out t c (upright-opposite (upright (m .off))) to-west (m .turn)))

@@ -34,7 +34,8 @@ module _ {t : Trip} {bs : List Block} (course : Course t bs) where
   step new (passing m) = passing-step course m
   step new (returning m) = returning-step course m
 
-  pub mode-arrives : (n m : ℕ) (p : At) → n ≤ m → Mode t bs n (p .row) (p .column) (p .last) → (lawfulRoute t p (walk m t p) ≡ true) × (length (walk m t p) < n)
+  pub mode-arrives : (n m : ℕ) (p : At) → n ≤ m → Mode t bs n (p .row) (p .column) (p .last) →
+      (lawfulRoute t p (walk m t p) ≡ true) × (length (walk m t p) < n)
   unfolding walk lawfulRoute hopAt moved
   mode-arrives zero m p h i = absurd (never-zero i)
   mode-arrives (suc n) zero p h i = absurd (omega arith)

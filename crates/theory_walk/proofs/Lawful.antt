@@ -28,7 +28,8 @@ pub record Goes (t : Trip) (M : ℕ → ℕ → Last → Type 0) (r c : ℕ) (l 
   pub then : M (rowAfter h r) (columnAfter h c) (made h)
 
 module _ {t : Trip} {M : ℕ → ℕ → Last → Type 0} {l : Last} {r c : ℕ} where
-  goes-by : {h : Heading} → stays (t .columns) (t .rows) h r c ≡ true → blocked t h 1 r c ≡ false → Permits t c l h → M (rowAfter h r) (columnAfter h c) (made h) → Goes t M r c l h
+  goes-by : {h : Heading} → stays (t .columns) (t .rows) h r c ≡ true → blocked t h 1 r c ≡ false → Permits t c l h →
+      M (rowAfter h r) (columnAfter h c) (made h) → Goes t M r c l h
   unfolding lawful
   goes-by s b f m = record { lawfully = rw (s, b, f); then = m }
 
@@ -52,7 +53,8 @@ module _ {t : Trip} {M : ℕ → ℕ → Last → Type 0} {bs : List Block} wher
   goes-side {c = c} k (east e) x b f m = goes-by (lt-ltb (c + 1) (t .columns) (let h = k .column in omega arith)) b f m
   goes-side k (west e) x b f m = goes-west (omega arith) b f m
 
-  pub goes-in : {a : Heading} {l : Last} {r c i : ℕ} → Course t bs → Off t r (suc i) a → t .bad (rowAfter (opposite a) r) c ≡ false → Permits t c l (opposite a) →
+  pub goes-in : {a : Heading} {l : Last} {r c i : ℕ} → Course t bs → Off t r (suc i) a → t .bad (rowAfter (opposite a) r) c ≡ false →
+      Permits t c l (opposite a) →
       M (rowAfter (opposite a) r) c (made (opposite a)) → Goes t M r c l (opposite a)
   unfolding rowAfter opposite
   goes-in k (north e) b f m = goes-down (omega arith) b f m

@@ -58,7 +58,8 @@ module _ {t : Trip} {bs : List Block} (course : Course t bs) where
       let i = inside-if-bad course (m .crosses) (off-in (m .off)) (m .to) (omega arith) e in omega arith
   not-past false e m h = omega arith
 
-  past : {b : Block} {a s : Heading} {x r c n : ℕ} → Passing t bs b a s x r c n → notOwn t s c ≡ 0 → t .bad (rowAfter (opposite a) r) c ≡ false → x + 1 ≤ far t s b
+  past : {b : Block} {a s : Heading} {x r c n : ℕ} → Passing t bs b a s x r c n → notOwn t s c ≡ 0 →
+      t .bad (rowAfter (opposite a) r) c ≡ false → x + 1 ≤ far t s b
   past m h e = le-by-contradiction (λ f. true-false (bad-inside course (m .crosses) (off-in (m .off)) (m .to) (omega arith)) e)
 
   pub passing-step : {b : Block} {a s : Heading} {x r c n : ℕ} → Passing t bs b a s x r c (suc n) → Next t bs n r c (made s) (hop t r c (made s))

@@ -17,7 +17,8 @@ use Rattle.theory_walk.proofs.Bools.{bit, cond-by}
 use Rattle.theory_walk.proofs.Coordinates.{Level, to-east, to-west, Sight, right, left, Off, north, south, To, east, west, notOwn, notOwn-le, level, off-other}
 
 -- the tests of the rules, with what each outcome tells
-turn-by : (P : Heading → Type 0) (a b : Bool) {x y : Heading} → (bit (not a) ≡ 0 → b ≡ false → P x) → (1 ≤ bit (not a) + bit b → P y) → P (cond (a && not b) x y)
+turn-by : (P : Heading → Type 0) (a b : Bool) {x y : Heading} → (bit (not a) ≡ 0 → b ≡ false → P x) →
+    (1 ≤ bit (not a) + bit b → P y) → P (cond (a && not b) x y)
 turn-by P true true f g = g (omega arith)
 turn-by P true false f g = f refl refl
 turn-by P false true f g = g (omega arith)

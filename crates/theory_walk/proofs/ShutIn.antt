@@ -72,7 +72,8 @@ module _ {t : Trip} {bs : List Block} (course : Course t bs) where
       (λ p. inr (next (inside-if-bad course q o (sight-to to (p .sight) (omega arith)) (omega arith) (p .bad) .rows)))
       (λ p. inl (turn-barred t r c a)))
 
-  north-fails : {b : Block} {k r c x : ℕ} (m : ℕ) → Crosses t bs W b → Off t r (suc k) N → k + m ≡ reach t N b → To t c x W → x ≡ near t W b + 1 → notOwn t W c ≡ 1 →
+  north-fails : {b : Block} {k r c x : ℕ} (m : ℕ) → Crosses t bs W b → Off t r (suc k) N → k + m ≡ reach t N b → To t c x W →
+      x ≡ near t W b + 1 → notOwn t W c ≡ 1 →
       Fails t (at r c (made N))
   unfolding rowAfter
   north-fails zero q o e to f a = north-by q o (omega arith) to f a (λ h. absurd (omega arith))

@@ -50,7 +50,8 @@ module _ {t : Trip} {r c : ℕ} (src : Served t r c) where
       shifting {g = distance c (t .C) + 1} first
       (record { off = o; free = p .1; turn = rw e; one = p .0; gap-east = omega arith; gap-west = omega arith; falls = omega arith })
 
-  start-row : {bs : List Block} {s : Heading} {x n : ℕ} → To t c x s → x ≤ distance c (t .C) → ((j : ℕ) → Sight c 1 j s → t .bad r j ≡ true → Ready t c none s) →
+  start-row : {bs : List Block} {s : Heading} {x n : ℕ} → To t c x s → x ≤ distance c (t .C) →
+      ((j : ℕ) → Sight c 1 j s → t .bad r j ≡ true → Ready t c none s) →
       r ≡ t .R → bound t bs r c < n → Mode t bs n r c none
   unfolding bound
   start-row {bs} {s} to h stop e b =

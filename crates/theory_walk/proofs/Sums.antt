@@ -17,7 +17,8 @@ sum-le f g h [] = omega arith
 sum-le f g h (b ∷ bs) = let i = sum-le f g h bs in let j = h b in omega arith
 
 -- no term is greater, and one listed block's is less by k
-pub sum-less : (f g : Block → ℕ) (k : ℕ) → ((b : Block) → f b ≤ g b) → (a : Block) → f a + k ≤ g a → (bs : List Block) → Listed a bs → sum f bs + k ≤ sum g bs
+pub sum-less : (f g : Block → ℕ) (k : ℕ) → ((b : Block) → f b ≤ g b) → (a : Block) → f a + k ≤ g a → (bs : List Block) → Listed a bs →
+    sum f bs + k ≤ sum g bs
 unfolding sum
 sum-less f g k h a d (b ∷ bs) (List·Memᴰ·head e) = let i = sum-le f g h bs in let j : f b + k ≤ g b = rw e at d in omega arith
 sum-less f g k h a d (b ∷ bs) (List·Memᴰ·tail m) = let i = sum-less f g k h a d bs m in let j = h b in omega arith

@@ -55,7 +55,8 @@ passing-le : (c c′ : ℕ) → c′ ≤ c → (b : Block) → passing c′ b �
 unfolding passing
 passing-le c c′ h b = omega arith
 
-detour-le : (t : Trip) (a : Heading) (r r′ c c′ : ℕ) (b : Block) → (before a r′ b ≡ true → before a r b ≡ true) → c′ ≤ c → detour t a r′ c′ b ≤ detour t a r c b
+detour-le : (t : Trip) (a : Heading) (r r′ c c′ : ℕ) (b : Block) → (before a r′ b ≡ true → before a r b ≡ true) → c′ ≤ c →
+    detour t a r′ c′ b ≤ detour t a r c b
 unfolding detour
 detour-le t a r r′ c c′ b f h =
     let i = if-le (before a r′ b) (before a r b) (passing c′ b) (passing c b) (λ p. (f p, passing-le c c′ h b)) in omega arith
@@ -89,7 +90,8 @@ module _ (t : Trip) where
   rest-detour s a r c c′ bs = sum-le _ _ (λ b. let h = if-at-most (coming s c′ b) (crossing t b) (crossing t b) (omega arith) in omega arith) bs
 
   -- two columns west, over or under b
-  pub detour-two : (a : Heading) (r c : ℕ) {b : Block} (bs : List Block) → Listed b bs → before a r b ≡ true → b .column ≤ c → c < b .width + b .column → 2 ≤ c →
+  pub detour-two : (a : Heading) (r c : ℕ) {b : Block} (bs : List Block) → Listed b bs → before a r b ≡ true → b .column ≤ c →
+      c < b .width + b .column → 2 ≤ c →
       sum (detour t a r (c - 2)) bs + 4 ≤ sum (detour t a r c) bs
   unfolding detour
   detour-two a r c {b} bs m e h k two =

@@ -37,7 +37,8 @@ last-stays zero h = refl
 last-stays (suc i) h = refl
 
 -- the record after i hops that way
-after-is : (i : ℕ) (h : Heading) (p : Packet) → after i h p ≡ packetAt (record { row = rowBy h i (p .place .row .0); column = columnBy h i (p .place .column .0); last = lastBy i h (p .last) }) (p .destination)
+after-is : (i : ℕ) (h : Heading) (p : Packet) →
+    after i h p ≡ packetAt (record { row = rowBy h i (p .place .row .0); column = columnBy h i (p .place .column .0); last = lastBy i h (p .last) }) (p .destination)
 unfolding after lastBy moved
 after-is zero h p = rw (row-none h (p .place .row .0), column-none h (p .place .column .0))
 after-is (suc i) h p =
@@ -67,7 +68,8 @@ unfolding hop inRow
 hop-in-row t r c l on not-stopped is-side = rw (on, not-stopped, is-side)
 
 -- before the last free node neither of the next two is in a block
-open-before : (t : Trip) {s : Heading} {n r c x : ℕ} (i : ℕ) → Free (t .bad) s n r c x → i + 2 ≤ x → side t (columnBy s i c) ≡ s → stopped t (rowBy s i r) (columnBy s i c) ≡ false
+open-before : (t : Trip) {s : Heading} {n r c x : ℕ} (i : ℕ) → Free (t .bad) s n r c x → i + 2 ≤ x → side t (columnBy s i c) ≡ s →
+    stopped t (rowBy s i r) (columnBy s i c) ≡ false
 unfolding stopped blocked
 open-before t {s} {n} {r} {c} {x} i f le is-side =
     let one = ahead-free (t .bad) s 1 (rowBy s i r) (columnBy s i c) (rw (row-add s i 1 r, column-add s i 1 c) (f .free (i + 1) (omega arith) (omega arith))) in
@@ -93,14 +95,18 @@ hop-nearing t h r c is-h off free =
 
 module _ {columns rows : ℕ} {marks : List ℕ} {p : Packet} (g : BothOnMesh columns rows marks p) where
   -- in the destination's row, n columns from it, of which x are free
-  module _ (on : inItsRow p ≡ true) {n : ℕ} (is-n : n ≡ distance (p .place .column .0) (p .destination .column .0)) {s : Heading} (is-s : s ≡ side (tripOf (mesh columns rows marks) p) (p .place .column .0)) where
+  module _ (on : inItsRow p ≡ true) {n : ℕ} (is-n : n ≡ distance (p .place .column .0) (p .destination .column .0)) {s : Heading}
+      (is-s : s ≡ side (tripOf (mesh columns rows marks) p) (p .place .column .0)) where
     pub row-reaches : Reaches columns rows s n (p .place .row .0) (p .place .column .0)
     row-reaches = rw is-s (side-reaches (tripOf (mesh columns rows marks) p) (p .place .column .0) (omega arith) (p .place .row .0) (g .here .row) (g .here .column) (g .there .column) (g .here .sized .few-columns))
 
-    way : (i : ℕ) → i < n → (side (tripOf (mesh columns rows marks) p) (columnBy s i (p .place .column .0)) ≡ s) × (eqb (columnBy s i (p .place .column .0)) (p .destination .column .0) ≡ false)
+    way : (i : ℕ) → i < n →
+        (side (tripOf (mesh columns rows marks) p) (columnBy s i (p .place .column .0)) ≡ s) × (eqb (columnBy s i (p .place .column .0)) (p .destination .column .0) ≡ false)
     way = rw is-s (side-stays (tripOf (mesh columns rows marks) p) (p .place .column .0) {n = n} (omega arith))
 
-    row-runs : {k : ℕ} → k ≤ n → ((i : ℕ) → i < k → stopped (tripOf (mesh columns rows marks) p) (rowBy s i (p .place .row .0)) (columnBy s i (p .place .column .0)) ≡ false) → Runs (mesh columns rows marks) s k p
+    row-runs : {k : ℕ} → k ≤ n →
+        ((i : ℕ) → i < k → stopped (tripOf (mesh columns rows marks) p) (rowBy s i (p .place .row .0)) (columnBy s i (p .place .column .0)) ≡ false) →
+        Runs (mesh columns rows marks) s k p
     unfolding isThere hopFrom hopAt inItsRow
     row-runs {k} most free =
         let stays : (i : ℕ) → rowBy s i (p .place .row .0) ≡ p .place .row .0 = λ i. rw is-s (side-row (tripOf (mesh columns rows marks) p) (p .place .column .0) i (p .place .row .0)) in
@@ -110,7 +116,8 @@ module _ {columns rows : ℕ} {marks : List ℕ} {p : Packet} (g : BothOnMesh co
         }
 
     module _ {x : ℕ} (f : Free (bad (mesh columns rows marks)) s n (p .place .row .0) (p .place .column .0) x) where
-      before : (i : ℕ) → i + 2 ≤ x → stopped (tripOf (mesh columns rows marks) p) (rowBy s i (p .place .row .0)) (columnBy s i (p .place .column .0)) ≡ false
+      before : (i : ℕ) → i + 2 ≤ x →
+          stopped (tripOf (mesh columns rows marks) p) (rowBy s i (p .place .row .0)) (columnBy s i (p .place .column .0)) ≡ false
       before i le = open-before (tripOf (mesh columns rows marks) p) i f le (way i (omega (arith, f .most)) .0)
 
       pub row-lands : Lands s (x - 1) (p .place .row .0) (p .place .column .0)
@@ -131,7 +138,8 @@ module _ {columns rows : ℕ} {marks : List ℕ} {p : Packet} (g : BothOnMesh co
           let stop = ahead-bad (bad (mesh columns rows marks)) s (λ e. omega (arith, row-reaches .south e)) (λ e. omega (arith, row-reaches .west e)) next in
           record { runs = runs-none (mesh columns rows marks) s p; stops = λ e. rw (← is-s, stop) }
 
-      module _ (some : 1 ≤ x) {y : Bool} (ey : y ≡ stopped (tripOf (mesh columns rows marks) p) (rowBy s (x - 1) (p .place .row .0)) (columnBy s (x - 1) (p .place .column .0))) where
+      module _ (some : 1 ≤ x) {y : Bool}
+          (ey : y ≡ stopped (tripOf (mesh columns rows marks) p) (rowBy s (x - 1) (p .place .row .0)) (columnBy s (x - 1) (p .place .column .0))) where
         pub unstopped-before : y ≡ true → Unstopped (mesh columns rows marks) s (x - 1) p
         unstopped-before t =
             record {
@@ -147,23 +155,28 @@ module _ {columns rows : ℕ} {marks : List ℕ} {p : Packet} (g : BothOnMesh co
             }
 
   -- at a stop in the destination's row
-  pub leaves-row : inItsRow p ≡ true → isThere p ≡ false → {h : Heading} → h ≡ again (p .last) → stopped (tripOf (mesh columns rows marks) p) (p .place .row .0) (p .place .column .0) ≡ true → Runs (mesh columns rows marks) h 1 p
+  pub leaves-row : inItsRow p ≡ true → isThere p ≡ false → {h : Heading} → h ≡ again (p .last) →
+      stopped (tripOf (mesh columns rows marks) p) (p .place .row .0) (p .place .column .0) ≡ true →
+      Runs (mesh columns rows marks) h 1 p
   unfolding inItsRow hopFrom hopAt hop inRow
   leaves-row on away is-h stop = runs-one (mesh columns rows marks) _ p away (rw (on, stop) is-h)
 
   -- in another row, n rows from the destination's, of which x are free
-  module _ (nears : nearsRow p ≡ true) {n : ℕ} (is-n : n ≡ distance (p .place .row .0) (p .destination .row .0)) {h : Heading} (is-h : h ≡ toward (tripOf (mesh columns rows marks) p) (p .place .row .0)) where
+  module _ (nears : nearsRow p ≡ true) {n : ℕ} (is-n : n ≡ distance (p .place .row .0) (p .destination .row .0)) {h : Heading}
+      (is-h : h ≡ toward (tripOf (mesh columns rows marks) p) (p .place .row .0)) where
     pub column-reaches : Reaches columns rows h n (p .place .row .0) (p .place .column .0)
     column-reaches = rw is-h (toward-reaches (tripOf (mesh columns rows marks) p) (p .place .row .0) (omega arith) (p .place .column .0) (g .here .row) (g .here .column) (g .there .row) (g .here .sized .few-rows))
 
-    onward : (i : ℕ) → i < n → (toward (tripOf (mesh columns rows marks) p) (rowBy h i (p .place .row .0)) ≡ h) × (eqb (rowBy h i (p .place .row .0)) (p .destination .row .0) ≡ false)
+    onward : (i : ℕ) → i < n →
+        (toward (tripOf (mesh columns rows marks) p) (rowBy h i (p .place .row .0)) ≡ h) × (eqb (rowBy h i (p .place .row .0)) (p .destination .row .0) ≡ false)
     onward = rw is-h (toward-stays (tripOf (mesh columns rows marks) p) (p .place .row .0) {n = n} (omega arith))
 
     was : p .last ≡ made h
     unfolding nearsRow toward
     was = last-made (p .last) h (rw is-h nears)
 
-    pub column-runs : {x : ℕ} → Free (bad (mesh columns rows marks)) h n (p .place .row .0) (p .place .column .0) x → Runs (mesh columns rows marks) h x p
+    pub column-runs : {x : ℕ} → Free (bad (mesh columns rows marks)) h n (p .place .row .0) (p .place .column .0) x →
+        Runs (mesh columns rows marks) h x p
     unfolding isThere hopFrom hopAt blocked
     column-runs {x} f =
         record {
@@ -175,7 +188,8 @@ module _ {columns rows : ℕ} {marks : List ℕ} {p : Packet} (g : BothOnMesh co
         }
 
     -- before a block
-    pub leaves-column : inItsRow p ≡ false → Free (bad (mesh columns rows marks)) h n (p .place .row .0) (p .place .column .0) 0 → Runs (mesh columns rows marks) W 1 p
+    pub leaves-column : inItsRow p ≡ false → Free (bad (mesh columns rows marks)) h n (p .place .row .0) (p .place .column .0) 0 →
+        Runs (mesh columns rows marks) W 1 p
     unfolding inItsRow isThere hopFrom hopAt hop nearing blocked distance
     leaves-column off f =
         let apart = eqb-false (p .place .row .0) (p .destination .row .0) off in

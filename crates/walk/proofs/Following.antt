@@ -81,7 +81,9 @@ module _ {columns rows : ℕ} {marks : List ℕ} {p : Packet} {made left : ℕ} 
             few = omega (arith, g .few, going-left);
           })
 
-      follows-on : {out : List ℕ} {x : ℕ} {after : List ℕ} → Follows (mesh columns rows marks) (movedPacket h p) (set out made (letter h)) (made + 1) (left - 1) x after → Follows (mesh columns rows marks) p out made left x after
+      follows-on : {out : List ℕ} {x : ℕ} {after : List ℕ} →
+          Follows (mesh columns rows marks) (movedPacket h p) (set out made (letter h)) (made + 1) (left - 1) x after →
+          Follows (mesh columns rows marks) p out made left x after
       unfolding hopFrom moved letters over
       follows-on f =
           let f′ = rw is-h at f in
@@ -94,7 +96,9 @@ lands-none on =
 -- n hops that way by the rules
 record Ran (columns rows : ℕ) (marks : List ℕ) (h : Heading) (n : ℕ) (p : Packet) (made left : ℕ) : Type 0 where
   pub going : Going columns rows marks (after n h p) (made + n) (left - n)
-  pub onward : {out : List ℕ} {x : ℕ} {end : List ℕ} → Follows (mesh columns rows marks) (after n h p) (over out made (replicate n (letter h))) (made + n) (left - n) x end → Follows (mesh columns rows marks) p out made left x end
+  pub onward : {out : List ℕ} {x : ℕ} {end : List ℕ} →
+      Follows (mesh columns rows marks) (after n h p) (over out made (replicate n (letter h))) (made + n) (left - n) x end →
+      Follows (mesh columns rows marks) p out made left x end
   pub enough : n < left
   pub lands : Lands h n (p .place .row .0) (p .place .column .0)
 
@@ -131,7 +135,8 @@ after-some zero h p some = absurd (omega arith)
 after-some (suc n) h p some = sym (after-moved n h p)
 
 -- a hop round a block is a leg of one
-pub round-one : {w : Mesh} {p : Packet} {h : Heading} → goesStraight p ≡ false → h ≡ otherRow (tripOf w p) (p .place .row .0) (p .place .column .0) (p .last) → Runs w h 1 p
+pub round-one : {w : Mesh} {p : Packet} {h : Heading} → goesStraight p ≡ false →
+    h ≡ otherRow (tripOf w p) (p .place .row .0) (p .place .column .0) (p .last) → Runs w h 1 p
 unfolding inItsRow isThere hopFrom hopAt hop
 round-one {w} {p} {h} off is-h =
     let row = or-none (inItsRow p) (nearsRow p) off .0 in
@@ -140,14 +145,17 @@ round-one {w} {p} {h} off is-h =
 -- from p₀ with begun hops made the packet has come to p with made of them
 pub record Along (columns rows : ℕ) (marks : List ℕ) (p₀ : Packet) (out₀ : List ℕ) (begun limit : ℕ) (p : Packet) (out : List ℕ) (made left : ℕ) : Type 0 where
   pub going : Going columns rows marks p made left
-  pub onward : {x : ℕ} {after : List ℕ} → Follows (mesh columns rows marks) p out made left x after → Follows (mesh columns rows marks) p₀ out₀ begun limit x after
+  pub onward : {x : ℕ} {after : List ℕ} → Follows (mesh columns rows marks) p out made left x after →
+      Follows (mesh columns rows marks) p₀ out₀ begun limit x after
   pub fell : left ≤ limit
   pub size : length out ≡ length out₀
 
-pub along-none : {columns rows : ℕ} {marks : List ℕ} {p : Packet} {out : List ℕ} {made left : ℕ} → Going columns rows marks p made left → Along columns rows marks p out made left p out made left
+pub along-none : {columns rows : ℕ} {marks : List ℕ} {p : Packet} {out : List ℕ} {made left : ℕ} →
+    Going columns rows marks p made left → Along columns rows marks p out made left p out made left
 along-none g = record { going = g; onward = λ f. f; fell = omega arith; size = refl }
 
-module _ {columns rows : ℕ} {marks : List ℕ} {p₀ : Packet} {out₀ : List ℕ} {begun limit : ℕ} {p : Packet} {out : List ℕ} {made left : ℕ} (a : Along columns rows marks p₀ out₀ begun limit p out made left) where
+module _ {columns rows : ℕ} {marks : List ℕ} {p₀ : Packet} {out₀ : List ℕ} {begun limit : ℕ} {p : Packet} {out : List ℕ}
+    {made left : ℕ} (a : Along columns rows marks p₀ out₀ begun limit p out made left) where
   module _ {h : Heading} {n : ℕ} (r : Runs (mesh columns rows marks) h n p) where
     pub along-few : (n < left) × (made + left ≤ hopLimit)
     along-few = (ran n (a .going) (r .away) (r .hops) .enough, a .going .few)
@@ -155,7 +163,8 @@ module _ {columns rows : ℕ} {marks : List ℕ} {p₀ : Packet} {out₀ : List 
     pub along-lands : Lands h n (p .place .row .0) (p .place .column .0)
     along-lands = ran n (a .going) (r .away) (r .hops) .lands
 
-    pub along-leg : {q : Packet} {out′ : List ℕ} → 1 ≤ n → (q ≡ movedBy h n p) × (out′ ≡ over out made (replicate n (letter h))) → Along columns rows marks p₀ out₀ begun limit q out′ (made + n) (left - n)
+    pub along-leg : {q : Packet} {out′ : List ℕ} → 1 ≤ n → (q ≡ movedBy h n p) × (out′ ≡ over out made (replicate n (letter h))) →
+        Along columns rows marks p₀ out₀ begun limit q out′ (made + n) (left - n)
     along-leg {q} {out′} some is-on =
         let on = ran n (a .going) (r .away) (r .hops) in
         let is-q : q ≡ after n h p = is-on .0 ∙ after-some n h p some in
@@ -168,5 +177,6 @@ module _ {columns rows : ℕ} {marks : List ℕ} {p₀ : Packet} {out₀ : List 
         })
 
 -- an output with room for any route has room for this one
-pub room-enough : {columns rows : ℕ} {marks : List ℕ} {p : Packet} (room : ℕ) → Going columns rows marks p 0 hopLimit → mostHops ≤ room → true ≡ leb (length (rest hopLimit (mesh columns rows marks) p)) room
+pub room-enough : {columns rows : ℕ} {marks : List ℕ} {p : Packet} (room : ℕ) → Going columns rows marks p 0 hopLimit →
+    mostHops ≤ room → true ≡ leb (length (rest hopLimit (mesh columns rows marks) p)) room
 room-enough room g h = sym (le-leb _ room (omega (arith, g .leads .enough)))

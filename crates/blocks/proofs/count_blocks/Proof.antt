@@ -21,25 +21,46 @@ mul-n : tie.Need-mul-n Inv-loop μ-loop
 mul-n c = omega (arith, few-nodes _ _ (c .before .pre .few-columns) (c .before .pre .few-rows))
 
 loop-holds : tie.Need-loop-holds Inv-loop μ-loop
-loop-holds c = (omega arith, refl, omega arith, omega (arith, corners-all (mesh (c .before .args .columns) (c .before .args .rows) (c .before .args .marks .now))))
+loop-holds c = (
+  omega arith,
+  refl,
+  omega arith,
+  omega (arith, corners-all (mesh (c .before .args .columns) (c .before .args .rows) (c .before .args .marks .now))),
+)
 
 is-corner-requires : tie.Need-is-corner-requires Inv-loop μ-loop
 is-corner-requires c κs = (c .before .before .before .pre, omega arith)
 
 add-k : tie.Need-add-k Inv-loop μ-loop
-add-k c = omega (arith, few-nodes _ _ (c .before .before .before .before .before .pre .few-columns) (c .before .before .before .before .before .pre .few-rows))
+add-k c =
+    let asked = c .before .before .before .before .before .pre in
+    omega (arith, few-nodes _ _ (asked .few-columns) (asked .few-rows))
 
 add-i : tie.Need-add-i Inv-loop μ-loop
-add-i c = omega (arith, few-nodes _ _ (c .before .before .before .before .before .pre .few-columns) (c .before .before .before .before .before .pre .few-rows))
+add-i c =
+    let asked = c .before .before .before .before .before .pre in
+    omega (arith, few-nodes _ _ (asked .few-columns) (asked .few-rows))
 
 loop-less : tie.Need-loop-less Inv-loop μ-loop
 loop-less c = omega arith
 
 loop-again : tie.Need-loop-again Inv-loop μ-loop
-loop-again c = (omega arith, refl, ⊎-elim (λ w. omega arith) (λ w. omega arith) (c .if1 .came), ⊎-elim (λ w. omega (arith, corners-yes (mesh (c .before .before .before .before .before .args .columns) (c .before .before .before .before .before .args .rows) (c .before .before .before .before .before .args .marks .now)) (c .before .before .before .loop .i) (omega arith) (c .before .is-corner .ensures) (w .0 .taken))) (λ w. omega (arith, corners-no (mesh (c .before .before .before .before .before .args .columns) (c .before .before .before .before .before .args .rows) (c .before .before .before .before .before .args .marks .now)) (c .before .before .before .loop .i) (omega arith) (c .before .is-corner .ensures) (w .0 .left))) (c .if1 .came))
+loop-again c =
+    let at-loop = c .before .before .before in
+    let entry = at-loop .before .before in (
+      omega arith,
+      refl,
+      ⊎-elim (λ w. omega arith) (λ w. omega arith) (c .if1 .came),
+      ⊎-elim
+          (λ w. omega (arith, corners-yes (mesh (entry .args .columns) (entry .args .rows) (entry .args .marks .now)) (at-loop .loop .i) (omega arith) (c .before .is-corner .ensures) (w .0 .taken)))
+          (λ w. omega (arith, corners-no (mesh (entry .args .columns) (entry .args .rows) (entry .args .marks .now)) (at-loop .loop .i) (omega arith) (c .before .is-corner .ensures) (w .0 .left)))
+          (c .if1 .came),
+    )
 
 returns : tie.Need-returns Inv-loop μ-loop
-returns c = omega (arith, corners-end (mesh (c .before .before .before .args .columns) (c .before .before .before .args .rows) (c .before .before .before .args .marks .now)) (c .before .loop .i) (omega arith))
+returns c =
+    let entry = c .before .before .before in
+    omega (arith, corners-end (mesh (entry .args .columns) (entry .args .rows) (entry .args .marks .now)) (c .before .loop .i) (omega arith))
 
 pub count-blocks-spec : {M : Type 1} → statement M
 count-blocks-spec =

@@ -41,7 +41,8 @@ returns-3 c =
     let at-west = c .before in
     let at-node = at-west .before .before in
     let asked = at-node .before .before .before .pre in
-    corner-south _ _ _ (faulty-at _ _ _ _ (asked .1) (at-node .if1 .left)) (at-west .before .is-bad-ahead .ensures) (at-west .if2 .left) (c .is-bad-ahead2 .ensures)
+    corner-south _ _ _ (faulty-at _ _ _ _ (asked .1) (at-node .if1 .left)) (at-west .before .is-bad-ahead .ensures)
+    (at-west .if2 .left) (c .is-bad-ahead2 .ensures)
 
 pub is-corner-spec : {M : Type 1} → statement M
 is-corner-spec =

@@ -42,11 +42,13 @@ returns-3 c =
     let past-here = at-north .before in
     let at-here = past-here .before in
     let (marks, _, free) = at-here .before .before .before .pre in
-    ring-none _ _ _ _ marks free (at-here .is-row-near .ensures) (past-here .if1 .left) (at-north .is-row-near2 .ensures) (past-north .if2 .left) (c .if3 .taken)
+    ring-none _ _ _ _ marks free (at-here .is-row-near .ensures) (past-here .if1 .left)
+    (at-north .is-row-near2 .ensures) (past-north .if2 .left) (c .if3 .taken)
 
 is-row-near-requires-3 : tie.Need-is-row-near-requires-3
 is-row-near-requires-3 c κs =
-    let (marks, on, _) = c .before .before .before .before .before .before .before .pre in
+    let asked = c .before .before .before .before .before .before .before .pre in
+    let (marks, on, _) = asked in
     (marks .sized, on-mesh _ _ _ _ (marks .sized) on .column)
 
 returns-4 : tie.Need-returns-4
@@ -57,7 +59,8 @@ returns-4 c =
     let past-here = at-north .before in
     let at-here = past-here .before in
     let (marks, _, free) = at-here .before .before .before .pre in
-    ring-south _ _ _ _ marks free (at-here .is-row-near .ensures) (past-here .if1 .left) (at-north .is-row-near2 .ensures) (past-north .if2 .left) (past-edge .if3 .left) (c .is-row-near3 .ensures)
+    ring-south _ _ _ _ marks free (at-here .is-row-near .ensures) (past-here .if1 .left)
+    (at-north .is-row-near2 .ensures) (past-north .if2 .left) (past-edge .if3 .left) (c .is-row-near3 .ensures)
 
 pub is-on-ring-spec : {M : Type 1} → statement M
 is-on-ring-spec =

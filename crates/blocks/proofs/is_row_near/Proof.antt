@@ -17,13 +17,19 @@ is-bad-beside-requires : tie.Need-is-bad-beside-requires
 is-bad-beside-requires c κs = search needs
 
 returns-3 : tie.Need-returns-3
-returns-3 c = row-first _ _ _ (c .before .before .before .is-bad-node .ensures) (c .before .before .if2 .left) (c .before .is-bad-beside .ensures) (c .if3 .taken)
+returns-3 c =
+    row-first _ _ _ (c .before .before .before .is-bad-node .ensures) (c .before .before .if2 .left)
+    (c .before .is-bad-beside .ensures) (c .if3 .taken)
 
 is-bad-beside-requires-2 : tie.Need-is-bad-beside-requires-2
 is-bad-beside-requires-2 c κs = search needs
 
 returns-4 : tie.Need-returns-4
-returns-4 c = row-second _ _ _ (c .before .before .before .before .is-bad-node .ensures) (c .before .before .before .if2 .left) (c .before .before .is-bad-beside .ensures) (c .before .if3 .left) (c .is-bad-beside2 .ensures)
+returns-4 c =
+    let at-is-bad-beside = c .before .before in
+    let at-is-bad-node = at-is-bad-beside .before .before in
+    row-second _ _ _ (at-is-bad-node .is-bad-node .ensures) (at-is-bad-beside .before .if2 .left)
+    (at-is-bad-beside .is-bad-beside .ensures) (c .before .if3 .left) (c .is-bad-beside2 .ensures)
 
 pub is-row-near-spec : {M : Type 1} → statement M
 is-row-near-spec =

@@ -22,7 +22,9 @@ moved-on-requires : tie.Need-moved-on-requires
 moved-on-requires c κs = search needs
 
 write-packet-requires : tie.Need-write-packet-requires
-write-packet-requires c κs = record-length _ (sym (c .before .before .before .before .before .before .is-record .ensures) ∙ not-false _ (c .before .before .before .before .before .if1 .left))
+write-packet-requires c κs =
+    let at-if1 = c .before .before .before .before .before in
+    record-length _ (sym (at-if1 .before .is-record .ensures) ∙ not-false _ (at-if1 .if1 .left))
 
 moved-code-requires : tie.Need-moved-code-requires
 moved-code-requires c κs = search needs
@@ -31,7 +33,13 @@ same-length-2 : tie.Need-same-length-2
 same-length-2 c = search needs
 
 returns-2 : tie.Need-returns-2
-returns-2 c = moves (sym (c .before .before .before .before .before .before .before .before .before .before .is-record .ensures) ∙ not-false _ (c .before .before .before .before .before .before .before .before .before .if1 .left)) (c .before .before .before .before .before .before .before .read-packet .ensures) (c .before .before .before .before .before .before .moved-on .ensures) (c .before .before .before .write-packet .ensures) (c .moved-code .ensures)
+returns-2 c =
+    let at-write-packet = c .before .before .before in
+    let at-moved-on = at-write-packet .before .before .before in
+    let at-if1 = at-moved-on .before .before .before in
+    moves (sym (at-if1 .before .is-record .ensures) ∙ not-false _ (at-if1 .if1 .left))
+    (at-moved-on .before .read-packet .ensures) (at-moved-on .moved-on .ensures)
+    (at-write-packet .write-packet .ensures) (c .moved-code .ensures)
 
 pub pinduguil-move-on-spec : {M : Type 1} → statement M
 pinduguil-move-on-spec =

@@ -30,7 +30,10 @@ place-of-requires-2 c κs = search needs
 
 returns : tie.Need-returns
 unfolding packetOf
-returns c = rw (c .before .before .before .before .before .place-of .ensures, c .before .before .before .last-of .ensures, c .place-of2 .ensures)
+returns c =
+    let at-last-of = c .before .before .before in
+    let at-place-of = at-last-of .before .before in
+    rw (at-place-of .place-of .ensures, at-last-of .last-of .ensures, c .place-of2 .ensures)
 
 pub read-packet-spec : {M : Type 1} → statement M
 read-packet-spec =

@@ -20,7 +20,11 @@ same-length : tie.Need-same-length
 same-length c = search needs
 
 returns : tie.Need-returns
-returns c = routes (c .before .before .before .before .before .before .place-of .ensures) (c .before .before .before .before .before .place-of2 .ensures) (c .before .before .before .route .ensures) (c .routed-code .ensures)
+returns c =
+    let at-route = c .before .before .before in
+    let at-place-of2 = at-route .before .before in
+    routes (at-place-of2 .before .place-of .ensures) (at-place-of2 .place-of2 .ensures) (at-route .route .ensures)
+    (c .routed-code .ensures)
 
 pub pinduguil-route-spec : {M : Type 1} → statement M
 pinduguil-route-spec =

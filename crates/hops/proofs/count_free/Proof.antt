@@ -21,13 +21,20 @@ add-row-by : tie.Need-add-row-by Inv-loop μ-loop
 add-row-by c = omega (arith, c .before .before .before .pre .1 .hops)
 
 row-by-requires : tie.Need-row-by-requires Inv-loop μ-loop
-row-by-requires c κs = let l = reaches-lands (c .before .before .before .pre .1) {i = c .before .loop .k + 1} (omega arith) (c .before .before .before .pre .0 .few-columns) (c .before .before .before .pre .0 .few-rows) in (l .row, l .hops, l .south)
+row-by-requires c κs =
+    let asked = c .before .before .before .pre in
+    let l = reaches-lands (asked .1) {i = c .before .loop .k + 1} (omega arith) (asked .0 .few-columns) (asked .0 .few-rows) in
+    (l .row, l .hops, l .south)
 
 add-column-by : tie.Need-add-column-by Inv-loop μ-loop
 add-column-by c = omega (arith, c .before .before .before .before .pre .1 .hops)
 
 column-by-requires : tie.Need-column-by-requires Inv-loop μ-loop
-column-by-requires c κs = let l = reaches-lands (c .before .before .before .before .pre .1) {i = c .before .before .loop .k + 1} (omega arith) (c .before .before .before .before .pre .0 .few-columns) (c .before .before .before .before .pre .0 .few-rows) in (l .column, l .hops, l .west)
+column-by-requires c κs =
+    let at-loop = c .before .before in
+    let asked = at-loop .before .before .pre in
+    let l = reaches-lands (asked .1) {i = at-loop .loop .k + 1} (omega arith) (asked .0 .few-columns) (asked .0 .few-rows) in
+    (l .column, l .hops, l .west)
 
 is-bad-node-requires : tie.Need-is-bad-node-requires Inv-loop μ-loop
 is-bad-node-requires c κs =
@@ -37,16 +44,29 @@ is-bad-node-requires c κs =
     record { sized = size; row = rw (c .before .row-by .ensures) (on .0); column = rw (c .column-by .ensures) (on .1) }
 
 returns : tie.Need-returns Inv-loop μ-loop
-returns c = clear-bad (c .before .before .before .before .before .loop .inv .1) (omega arith) (rw (← c .before .before .before .row-by .ensures, ← c .before .before .column-by .ensures) (c .before .is-bad-node .ensures)) (c .if1 .taken)
+returns c =
+    let at-column-by = c .before .before in
+    let at-loop = at-column-by .before .before .before in
+    clear-bad (at-loop .loop .inv .1) (omega arith)
+    (rw (← at-column-by .before .row-by .ensures, ← at-column-by .column-by .ensures) (c .before .is-bad-node .ensures))
+    (c .if1 .taken)
 
 add-k : tie.Need-add-k Inv-loop μ-loop
-add-k c = omega (arith, c .before .before .before .before .before .before .before .pre .1 .hops)
+add-k c =
+    let asked = c .before .before .before .before .before .before .before .pre in
+    omega (arith, asked .1 .hops)
 
 loop-less : tie.Need-loop-less Inv-loop μ-loop
 loop-less c = omega arith
 
 loop-again : tie.Need-loop-again Inv-loop μ-loop
-loop-again c = (omega arith, clear-more (c .before .before .before .before .before .loop .inv .1) (rw (← c .before .before .before .row-by .ensures, ← c .before .before .column-by .ensures) (sym (c .before .is-bad-node .ensures) ∙ c .if1 .left)))
+loop-again c =
+    let at-column-by = c .before .before in
+    let at-loop = at-column-by .before .before .before in (
+      omega arith,
+      clear-more (at-loop .loop .inv .1)
+          (rw (← at-column-by .before .row-by .ensures, ← at-column-by .column-by .ensures) (sym (c .before .is-bad-node .ensures) ∙ c .if1 .left)),
+    )
 
 returns-2 : tie.Need-returns-2 Inv-loop μ-loop
 returns-2 c = clear-all (c .before .loop .inv .1) (omega arith)

@@ -24,13 +24,20 @@ turns-back-requires : tie.Need-turns-back-requires
 turns-back-requires c κs = search needs
 
 returns-2 : tie.Need-returns-2
-returns-2 c = turns-back _ _ _ (c .before .before .before .before .stays .ensures) (c .before .before .before .if1 .left) (c .before .turns-back .ensures) (c .if2 .taken)
+returns-2 c =
+    let at-if1 = c .before .before .before in
+    turns-back _ _ _ (at-if1 .before .stays .ensures) (at-if1 .if1 .left) (c .before .turns-back .ensures)
+    (c .if2 .taken)
 
 turns-wrong-requires : tie.Need-turns-wrong-requires
 turns-wrong-requires c κs = search needs
 
 returns-3 : tie.Need-returns-3
-returns-3 c = turns-wrong _ _ _ (c .before .before .before .before .before .before .stays .ensures) (c .before .before .before .before .before .if1 .left) (c .before .before .before .turns-back .ensures) (c .before .before .if2 .left) (c .before .turns-wrong .ensures) (c .if3 .taken)
+returns-3 c =
+    let at-if2 = c .before .before in
+    let at-if1 = at-if2 .before .before .before in
+    turns-wrong _ _ _ (at-if1 .before .stays .ensures) (at-if1 .if1 .left) (at-if2 .before .turns-back .ensures)
+    (at-if2 .if2 .left) (c .before .turns-wrong .ensures) (c .if3 .taken)
 
 is-bad-node-requires : tie.Need-is-bad-node-requires
 unfolding moved
@@ -38,13 +45,28 @@ is-bad-node-requires c κs =
     let at-moved = c .before .before .before .before in
     let at-stays = at-moved .before in
     let on = at-stays .before .before .before .before .before .pre in
-    rw (at-moved .moved-by .ensures ∙ moved-one _ _) (stays-on on _ (sym (at-stays .before .stays .ensures) ∙ not-false _ (at-stays .if1 .left)))
+    let there = stays-on on _ (sym (at-stays .before .stays .ensures) ∙ not-false _ (at-stays .if1 .left)) in
+    rw (at-moved .moved-by .ensures ∙ moved-one _ _) (record { sized = there .sized; row = there .row; column = there .column })
 
 returns-4 : tie.Need-returns-4
-returns-4 c = enters _ _ _ (c .before .before .before .before .before .before .before .before .stays .ensures) (c .before .before .before .before .before .before .before .if1 .left) (c .before .before .before .before .before .turns-back .ensures) (c .before .before .before .before .if2 .left) (c .before .before .before .turns-wrong .ensures) (c .before .before .if3 .left) (c .before .before .before .before .before .before .moved-by .ensures ∙ moved-one _ _) (c .before .is-bad-node .ensures) (c .if4 .taken)
+returns-4 c =
+    let at-if3 = c .before .before in
+    let at-if2 = at-if3 .before .before in
+    let at-moved-by = at-if2 .before .before in
+    let at-stays = at-moved-by .before .before in
+    enters _ _ _ (at-stays .stays .ensures) (at-moved-by .before .if1 .left) (at-if2 .before .turns-back .ensures)
+    (at-if2 .if2 .left) (at-if3 .before .turns-wrong .ensures) (at-if3 .if3 .left)
+    (at-moved-by .moved-by .ensures ∙ moved-one _ _) (c .before .is-bad-node .ensures) (c .if4 .taken)
 
 returns-5 : tie.Need-returns-5
-returns-5 c = passes _ _ _ (c .before .before .before .before .before .before .before .before .stays .ensures) (c .before .before .before .before .before .before .before .if1 .left) (c .before .before .before .before .before .turns-back .ensures) (c .before .before .before .before .if2 .left) (c .before .before .before .turns-wrong .ensures) (c .before .before .if3 .left) (c .before .before .before .before .before .before .moved-by .ensures ∙ moved-one _ _) (c .before .is-bad-node .ensures) (c .if4 .left)
+returns-5 c =
+    let at-if3 = c .before .before in
+    let at-if2 = at-if3 .before .before in
+    let at-moved-by = at-if2 .before .before in
+    let at-stays = at-moved-by .before .before in
+    passes _ _ _ (at-stays .stays .ensures) (at-moved-by .before .if1 .left) (at-if2 .before .turns-back .ensures)
+    (at-if2 .if2 .left) (at-if3 .before .turns-wrong .ensures) (at-if3 .if3 .left)
+    (at-moved-by .moved-by .ensures ∙ moved-one _ _) (c .before .is-bad-node .ensures) (c .if4 .left)
 
 pub test-hop-spec : {M : Type 1} → statement M
 test-hop-spec =

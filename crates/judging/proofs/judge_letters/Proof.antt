@@ -36,7 +36,9 @@ enum-known-named : tie.Need-enum-known-named Inv-loop μ-loop
 enum-known-named c = search needs
 
 test-hop-requires : tie.Need-test-hop-requires Inv-loop μ-loop
-test-hop-requires c κs = c .before .before .before .before .before .before .loop .inv .on-mesh
+test-hop-requires c κs =
+    let at-loop = c .before .before .before .before .before .before in
+    at-loop .loop .inv .on-mesh
 
 enum-known-tested : tie.Need-enum-known-tested Inv-loop μ-loop
 enum-known-tested c = search needs
@@ -47,7 +49,8 @@ returns-2 c =
     let at-named = at-hop .before .before in
     let at-letter = at-named .before .before in
     let judged = at-letter .before .before .before .loop .inv in
-    judging-wrong _ _ _ judged (omega arith) (at-letter .read-letter .ensures) (at-named .named .given .1) (at-hop .test-hop .ensures) (c .before .tested .given .1)
+    judging-wrong _ _ _ judged (omega arith) (at-letter .read-letter .ensures) (at-named .named .given .1)
+    (at-hop .test-hop .ensures) (c .before .tested .given .1)
 
 enum-known-tested-2 : tie.Need-enum-known-tested-2 Inv-loop μ-loop
 enum-known-tested-2 c = search needs
@@ -66,16 +69,21 @@ loop-again c =
     let at-named = at-hop .before .before in
     let at-letter = at-named .before .before in
     let judged = at-letter .before .before .before .loop .inv in
-    judging-on _ _ _ judged (omega arith) (at-letter .read-letter .ensures) (at-named .named .given .1) (at-hop .test-hop .ensures) (c .before .tested2 .given .1)
+    judging-on _ _ _ judged (omega arith) (at-letter .read-letter .ensures) (at-named .named .given .1)
+    (at-hop .test-hop .ensures) (c .before .tested2 .given .1)
 
 is-there-requires : tie.Need-is-there-requires Inv-loop μ-loop
 is-there-requires c κs = tt
 
 returns-3 : tie.Need-returns-3 Inv-loop μ-loop
-returns-3 c = judging-passed _ _ _ (c .before .before .before .loop .inv) (omega arith) (sym (c .before .is-there .ensures) ∙ c .if1 .taken)
+returns-3 c =
+    judging-passed _ _ _ (c .before .before .before .loop .inv) (omega arith)
+    (sym (c .before .is-there .ensures) ∙ c .if1 .taken)
 
 returns-4 : tie.Need-returns-4 Inv-loop μ-loop
-returns-4 c = judging-short _ _ _ (c .before .before .before .loop .inv) (omega arith) (sym (c .before .is-there .ensures) ∙ c .if1 .left)
+returns-4 c =
+    judging-short _ _ _ (c .before .before .before .loop .inv) (omega arith)
+    (sym (c .before .is-there .ensures) ∙ c .if1 .left)
 
 pub judge-letters-spec : {M : Type 1} → statement M
 judge-letters-spec =

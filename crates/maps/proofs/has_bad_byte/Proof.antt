@@ -33,7 +33,8 @@ loop-less : tie.Need-loop-less Inv-loop μ-loop
 loop-less c = omega arith
 
 loop-again : tie.Need-loop-again Inv-loop μ-loop
-loop-again c = (omega arith, c .before .before .before .loop .inv .1 ∙ some-later _ _ (omega arith) (le-ltb _ _ (c .if1 .left)))
+loop-again c =
+    (omega arith, c .before .before .before .loop .inv .1 ∙ some-later _ _ (omega arith) (le-ltb _ _ (c .if1 .left)))
 
 returns-2 : tie.Need-returns-2 Inv-loop μ-loop
 returns-2 c = sym (c .before .loop .inv .1 ∙ some-end _ _ (omega arith))

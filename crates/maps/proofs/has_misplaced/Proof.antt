@@ -22,25 +22,42 @@ unfolding misplaced
 loop-holds c = (omega arith, refl, some-all _ _)
 
 cast-is-misplaced : tie.Need-cast-is-misplaced Inv-loop μ-loop
-cast-is-misplaced c = omega (arith, few-nodes _ _ (c .before .before .before .pre .few-columns) (c .before .before .before .pre .few-rows))
+cast-is-misplaced c =
+    let asked = c .before .before .before .pre in
+    omega (arith, few-nodes _ _ (asked .few-columns) (asked .few-rows))
 
 shared-slice-read-is-misplaced : tie.Need-shared-slice-read-is-misplaced Inv-loop μ-loop
 shared-slice-read-is-misplaced c = omega (arith, c .before .before .before .before .pre .size)
 
 is-misplaced-requires : tie.Need-is-misplaced-requires Inv-loop μ-loop
-is-misplaced-requires c κs = (c .before .before .before .before .pre .few-columns, c .before .before .before .before .pre .few-rows, omega arith)
+is-misplaced-requires c κs =
+    let asked = c .before .before .before .before .pre in
+    (asked .few-columns, asked .few-rows, omega arith)
 
 returns : tie.Need-returns Inv-loop μ-loop
-returns c = sym (c .before .before .before .before .loop .inv .2 ∙ some-here _ _ (omega (arith, c .before .before .before .before .before .before .pre .size)) (sym (c .before .is-misplaced .ensures) ∙ c .if1 .taken))
+returns c =
+    let at-loop = c .before .before .before .before in
+    let asked = at-loop .before .before .pre in
+    sym
+    (at-loop .loop .inv .2 ∙ some-here _ _ (omega (arith, asked .size)) (sym (c .before .is-misplaced .ensures) ∙ c .if1 .taken))
 
 add-i : tie.Need-add-i Inv-loop μ-loop
-add-i c = omega (arith, few-nodes _ _ (c .before .before .before .before .before .before .pre .few-columns) (c .before .before .before .before .before .before .pre .few-rows))
+add-i c =
+    let asked = c .before .before .before .before .before .before .pre in
+    omega (arith, few-nodes _ _ (asked .few-columns) (asked .few-rows))
 
 loop-less : tie.Need-loop-less Inv-loop μ-loop
 loop-less c = omega arith
 
 loop-again : tie.Need-loop-again Inv-loop μ-loop
-loop-again c = (omega arith, refl, c .before .before .before .before .loop .inv .2 ∙ some-later _ _ (omega (arith, c .before .before .before .before .before .before .pre .size)) (sym (c .before .is-misplaced .ensures) ∙ c .if1 .left))
+loop-again c =
+    let at-loop = c .before .before .before .before in
+    let asked = at-loop .before .before .pre in (
+      omega arith,
+      refl,
+      at-loop .loop .inv .2 ∙
+          some-later _ _ (omega (arith, asked .size)) (sym (c .before .is-misplaced .ensures) ∙ c .if1 .left),
+    )
 
 returns-2 : tie.Need-returns-2 Inv-loop μ-loop
 returns-2 c = sym (c .before .loop .inv .2 ∙ some-end _ _ (omega (arith, c .before .before .before .pre .size)))

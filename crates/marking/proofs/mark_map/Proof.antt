@@ -24,16 +24,28 @@ slice-relend-prefix-mark : tie.Need-slice-relend-prefix-mark
 slice-relend-prefix-mark c = omega (arith, clear-few _ _ _ (told-clear _ (c .enum-told .given .1) (c .before .before .check-map .ensures)))
 
 slice-aggregate-mark : tie.Need-slice-aggregate-mark
-slice-aggregate-mark c = sym (length-take-le _ _ (omega (arith, clear-few _ _ _ (told-clear _ (c .before .enum-told .given .1) (c .before .before .before .check-map .ensures)))))
+slice-aggregate-mark c =
+    sym
+    (length-take-le _ _ (omega (arith, clear-few _ _ _ (told-clear _ (c .before .enum-told .given .1) (c .before .before .before .check-map .ensures)))))
 
 mark-requires : tie.Need-mark-requires
-mark-requires c κs = (clear-sized _ _ _ (told-clear _ (c .before .enum-told .given .1) (c .before .before .before .check-map .ensures)), length-take-le _ _ (omega (arith, clear-few _ _ _ (told-clear _ (c .before .enum-told .given .1) (c .before .before .before .check-map .ensures)))))
+mark-requires c κs =
+    let at-check-map = c .before .before .before in (
+      clear-sized _ _ _ (told-clear _ (c .before .enum-told .given .1) (at-check-map .check-map .ensures)),
+      length-take-le _ _
+          (omega (arith, clear-few _ _ _ (told-clear _ (c .before .enum-told .given .1) (at-check-map .check-map .ensures)))),
+    )
 
 same-length : tie.Need-same-length
 same-length c = search needs
 
 returns-2 : tie.Need-returns-2
-returns-2 c = map-marked _ _ _ _ (told-clear _ (c .before .before .before .before .enum-told .given .1) (c .before .before .before .before .before .before .check-map .ensures)) (c .before .before .mark .ensures)
+returns-2 c =
+    let at-mark = c .before .before in
+    let at-enum-told = at-mark .before .before in
+    let at-check-map = at-enum-told .before .before in
+    map-marked _ _ _ _ (told-clear _ (at-enum-told .enum-told .given .1) (at-check-map .check-map .ensures))
+    (at-mark .mark .ensures)
 
 pub mark-map-spec : {M : Type 1} → statement M
 mark-map-spec =

@@ -25,8 +25,8 @@ enum-told c = search needs
 returns-2 : tie.Need-returns-2
 returns-2 c =
     let tested = c .before .before in
-    let (_, away) = tested .before .before .before .pre in
-    moves-unlawful _ _ away (tested .before .hop .ensures) (tested .test-hop .ensures) (c .enum-told .given .1)
+    let asked = tested .before .before .before .pre in
+    moves-unlawful _ _ (asked .1) (tested .before .hop .ensures) (tested .test-hop .ensures) (c .enum-told .given .1)
 
 pub make-hop-spec : {M : Type 1} → statement M
 make-hop-spec =

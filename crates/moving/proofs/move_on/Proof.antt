@@ -75,7 +75,9 @@ stayed = (stay-none (λ _. u32) yes, (stay-none (λ _. u32) yes, (stay-none-slic
 abbrev Step : {M : Type 1} (𝓤 : URA M) (H : Heap 𝓤) (A : Atoms 𝓤) (mem : Memory → SProp 𝓤) (run : Routine → Fun 𝓤) → Contract 𝓤
 Step 𝓤 H A mem run = tripleOf 𝓤 H A step.signature (step.spec 𝓤 H A mem run)
 
-module _ {M : Type 1} (𝓤 : URA M) (H : Heap 𝓤) (A : Atoms 𝓤) (W : Given 𝓤 H A) (at-mem : Memory → SProp 𝓤) (run : Routine → Fun 𝓤) (κ κ′ : Lft) (q q′ : Share) (m n : ℕ) (m-fits : m < 2 ^ 32) (n-fits : n < 2 ^ 32) (s : RefT (List ℕ)) (b o : ℕ) (γ : GName) (h : Packet) where
+module _ {M : Type 1} (𝓤 : URA M) (H : Heap 𝓤) (A : Atoms 𝓤) (W : Given 𝓤 H A) (at-mem : Memory → SProp 𝓤) (run : Routine → Fun 𝓤)
+    (κ κ′ : Lft) (q q′ : Share) (m n : ℕ) (m-fits : m < 2 ^ 32) (n-fits : n < 2 ^ 32) (s : RefT (List ℕ)) (b o : ℕ) (γ : GName)
+    (h : Packet) where
   -- the machine values: the map's, and all four
   abbrev v : Val
   v = sliceVal (s .ptr) (length (s .now))
@@ -113,7 +115,8 @@ module _ {M : Type 1} (𝓤 : URA M) (H : Heap 𝓤) (A : Atoms 𝓤) (W : Given
   said : (r : Stepped) → ent 𝓤 (ensured 𝓤 H A step.ended (step.clauses 𝓤 H A at-mem run) (κ, tt) (m, (n, (s, (h, tt)))) tt r) (fact 𝓤 (Good r))
   said r = exE 𝓤 _ (λ ws. snd∗ 𝓤 (sem 𝓤 H A (lasts step.ended (κ, tt) (m, (n, (s, (h, tt)))) ws)) (fact 𝓤 (Good r)))
 
-  exits : (r : Stepped) → Is E.the-row (r .moved) (EL.vals E.the-type E′.the-laws (r .moved)) → Good r → ent 𝓤 (⋆ 𝓤 H A (‵ (fobs γ (P .coded .code (r .packet))) ∷ ‵ (fbor κ′ (Body (mem P) b o γ)) ∷ ‵ (flft κ′ q′) ∷ (‵ (flft κ q) ⊛ ‵ ftrue) ∷ ‵ Own ∷ [])) (Post (EL.val E.the-type E′.the-laws (r .moved)))
+  exits : (r : Stepped) → Is E.the-row (r .moved) (EL.vals E.the-type E′.the-laws (r .moved)) → Good r →
+      ent 𝓤 (⋆ 𝓤 H A (‵ (fobs γ (P .coded .code (r .packet))) ∷ ‵ (fbor κ′ (Body (mem P) b o γ)) ∷ ‵ (flft κ′ q′) ∷ (‵ (flft κ q) ⊛ ‵ ftrue) ∷ ‵ Own ∷ [])) (Post (EL.val E.the-type E′.the-laws (r .moved)))
   exits r is e =
       qed W (‵ (fobs γ (P .coded .code (r .packet))) ∷ ‵ (fbor κ′ (Body (mem P) b o γ)) ∷ ‵ (flft κ′ q′) ∷ (‵ (flft κ q) ⊛ ‵ ftrue) ∷ ‵ Own ∷ []) ∵
       suffices ! _ (ends-at 𝓤 H A move-on.ended stayed (move-on.clauses 𝓤 H A at-mem run) W (((κ, (κ′, tt)), (q, (q′, tt)), tt, a, at), tt) (EL.val E.the-type E′.the-laws (r .moved)) (r .moved) (tt, (tt, (tt, (r .packet, tt)))) (tt, (tt, (tt, (tt, tt))))) $
@@ -127,7 +130,8 @@ module _ {M : Type 1} (𝓤 : URA M) (H : Heap 𝓤) (A : Atoms 𝓤) (W : Given
       owned ! E.the-row (Is E.the-row) (EL.makes E.the-type E′.the-plain 𝓤 H A) (r .moved) _ is $ move ! (1 ∷ 0 ∷ []) $ done !
 
   module _ (C : Calls 𝓤 H) (Λ : Loops 𝓤 H) (fm : FmC 𝓤 H (W .laws) C) (known : Triple 𝓤 (C #step) (Step 𝓤 H A at-mem run)) where
-    walk : Is (ShrSlice (named 0) κ u8) s (v ∷ []) → ent 𝓤 (onEntry 𝓤 H A move-on.signature (κ, (κ′, tt)) (q, (q′, tt)) a at) (WpFn 𝓤 H C Λ code.function (vint w32 m ∷ vint w32 n ∷ v ∷ vptr b o ∷ []) Post)
+    walk : Is (ShrSlice (named 0) κ u8) s (v ∷ []) →
+        ent 𝓤 (onEntry 𝓤 H A move-on.signature (κ, (κ′, tt)) (q, (q′, tt)) a at) (WpFn 𝓤 H C Λ code.function (vint w32 m ∷ vint w32 n ∷ v ∷ vptr b o ∷ []) Post)
     walk p =
         qed W ((‵ (flft κ q) ⊛ ‵ (flft κ′ q′) ⊛ ‵ ftrue) ∷ ‵ (owns (u32 ∷ u32 ∷ ShrSlice (named 0) κ u8 ∷ MutRef (named 1) κ′ P ∷ []) a at) ∷ []) ∵
         split ! $ move ! (2 ∷ []) $ fsplit ! $ drop ! $ fsplit ! $ drop ! $ fsplit ! $ move ! (1 ∷ []) $ fsplit ! $ fsplit3 ! $ drop ! $ move ! (2 ∷ []) $ drop ! $ move ! (4 ∷ []) $ split ! $ move ! (2 ∷ 3 ∷ 0 ∷ []) $ move ! (3 ∷ []) $ drop ! $
@@ -162,14 +166,16 @@ module _ {M : Type 1} (𝓤 : URA M) (H : Heap 𝓤) (A : Atoms 𝓤) (W : Given
         by ! (exits r (LL.owed S.the-type S′.the-laws r _ is .1 .0) e))))))))))))))
 
 module _ {M : Type 1} (𝓤 : URA M) (H : Heap 𝓤) (A : Atoms 𝓤) (W : Given 𝓤 H A) (at-mem : Memory → SProp 𝓤) (run : Routine → Fun 𝓤) where
-  walks : (C : Calls 𝓤 H) (Λ : Loops 𝓤 H) → FmC 𝓤 H (W .laws) C → Triple 𝓤 (C #step) (Step 𝓤 H A at-mem run) → Walks 𝓤 H A move-on.ended stayed (WpFn 𝓤 H C Λ code.function) (move-on.clauses 𝓤 H A at-mem run)
+  walks : (C : Calls 𝓤 H) (Λ : Loops 𝓤 H) → FmC 𝓤 H (W .laws) C → Triple 𝓤 (C #step) (Step 𝓤 H A at-mem run) →
+      Walks 𝓤 H A move-on.ended stayed (WpFn 𝓤 H C Λ code.function) (move-on.clauses 𝓤 H A at-mem run)
   walks C Λ fm known = walked 𝓤 H A move-on.ended stayed (move-on.clauses 𝓤 H A at-mem run) (WpFn 𝓤 H C Λ code.function) (λ κs. (uint-vals w32, (uint-vals w32, (slice-vals, (ptr-vals, tt))))) (λ κs. (uint-tells w32, (uint-tells w32, (shr-slice-tells (named 0) (κs .0) u8, (mut-tells (named 1) (κs .1 .0) T.the-row, tt)))))
       (λ κs qs bounds a _ are. via 𝓤 _ (fst∗ 𝓤 _ (emp 𝓤)) (walk 𝓤 H A W at-mem run (κs .0) (κs .1 .0) (qs .0) (qs .1 .0) (a .0) (a .1 .0) (are .0 .1) (are .1 .0 .1) (a .1 .1 .0) (a .1 .1 .1 .0 .ptr .0) (a .1 .1 .1 .0 .ptr .1) (a .1 .1 .1 .0 .name) (a .1 .1 .1 .0 .now) C Λ fm known (are .1 .1 .0)))
 
   goes : AllGo 𝓤 H A W 2 (move-on.signature .params) (move-on.ended .kept) stayed
   goes = (goes-none 𝓤 H A W 2 (λ _. u32) yes (λ κs x f. refl), (goes-none 𝓤 H A W 2 (λ _. u32) yes (λ κs x f. refl), (goes-none-slice 𝓤 H A W 2 (0 ∷ []) tt (plain (λ _. u8)) yes, (goes-ref 𝓤 H A W 2 1 tt (plain (λ _. T.the-row)), tt))))
 
-  meets : (𝓣 : Tables 𝓤 H) → Triple 𝓤 (𝓣 .C #step) (Step 𝓤 H A at-mem run) → Meets 𝓤 H A move-on.signature (WpFn 𝓤 H (𝓣 .C) (𝓣 .Λ) code.function) (move-on.spec 𝓤 H A at-mem run)
+  meets : (𝓣 : Tables 𝓤 H) → Triple 𝓤 (𝓣 .C #step) (Step 𝓤 H A at-mem run) →
+      Meets 𝓤 H A move-on.signature (WpFn 𝓤 H (𝓣 .C) (𝓣 .Λ) code.function) (move-on.spec 𝓤 H A at-mem run)
   meets 𝓣 known = walk-meets 𝓤 H A move-on.ended stayed W goes (move-on.clauses 𝓤 H A at-mem run) (WpFn 𝓤 H (𝓣 .C) (𝓣 .Λ) code.function) (WpFn-mono 𝓤 H (W .laws) 𝓣 code.function) (walks (𝓣 .C) (𝓣 .Λ) (fmOf 𝓤 H (W .laws) 𝓣) known)
 
 pub move-on-spec : {M : Type 1} → stated.statement M

@@ -78,7 +78,8 @@ stayed = (stay-none (λ _. u32) yes, (stay-none (λ _. u32) yes, (stay-none-slic
 abbrev MoveOn : {M : Type 1} (𝓤 : URA M) (H : Heap 𝓤) (A : Atoms 𝓤) (mem : Memory → SProp 𝓤) (run : Routine → Fun 𝓤) → Contract 𝓤
 MoveOn 𝓤 H A mem run = tripleOf 𝓤 H A move-on.signature (move-on.spec 𝓤 H A mem run)
 
-module _ {M : Type 1} (𝓤 : URA M) (H : Heap 𝓤) (A : Atoms 𝓤) (W : Given 𝓤 H A) (at-mem : Memory → SProp 𝓤) (run : Routine → Fun 𝓤) (κ : Lft) (q : Share) (m n : ℕ) (m-fits : m < 2 ^ 32) (n-fits : n < 2 ^ 32) (s : RefT (List ℕ)) (h : Packet) where
+module _ {M : Type 1} (𝓤 : URA M) (H : Heap 𝓤) (A : Atoms 𝓤) (W : Given 𝓤 H A) (at-mem : Memory → SProp 𝓤) (run : Routine → Fun 𝓤)
+    (κ : Lft) (q : Share) (m n : ℕ) (m-fits : m < 2 ^ 32) (n-fits : n < 2 ^ 32) (s : RefT (List ℕ)) (h : Packet) where
   abbrev v : Val
   v = sliceVal (s .ptr) (length (s .now))
 
@@ -106,7 +107,8 @@ module _ {M : Type 1} (𝓤 : URA M) (H : Heap 𝓤) (A : Atoms 𝓤) (W : Given
   abbrev to : ℕ → ℕ → GName → MoveOn 𝓤 H A at-mem run .Ghost
   to ν l γ = (((κ, (ν ∷ [], tt)), (q, (fullShare, tt)), tt, (m, (n, (s, (x l γ, tt)))), (vint w32 m ∷ [], (vint w32 n ∷ [], (v ∷ [], (vptr l 0 ∷ [], tt))))), tt)
 
-  goes-in : (ν l : ℕ) (γ : GName) → ent 𝓤 (sep 𝓤 (sep 𝓤 (A .lft κ q) (A .lft (ν ∷ []) fullShare)) (sep 𝓤 (sem 𝓤 H A Own) (sem 𝓤 H A (MutRef (named 1) (ν ∷ []) P .own (x l γ) (vptr l 0 ∷ []))))) (MoveOn 𝓤 H A at-mem run .pre (to ν l γ))
+  goes-in : (ν l : ℕ) (γ : GName) →
+      ent 𝓤 (sep 𝓤 (sep 𝓤 (A .lft κ q) (A .lft (ν ∷ []) fullShare)) (sep 𝓤 (sem 𝓤 H A Own) (sem 𝓤 H A (MutRef (named 1) (ν ∷ []) P .own (x l γ) (vptr l 0 ∷ []))))) (MoveOn 𝓤 H A at-mem run .pre (to ν l γ))
   goes-in ν l γ =
       qed W ((‵ (flft κ q) ⊛ ‵ (flft (ν ∷ []) fullShare)) ∷ ‵ Own ∷ ‵ (MutRef (named 1) (ν ∷ []) P .own (x l γ) (vptr l 0 ∷ [])) ∷ []) ∵ split ! $ nothing ! $ move ! (2 ∷ 0 ∷ []) $ join ! $ move ! (1 ∷ 0 ∷ []) $ join ! $
       -- [the tokens; the map; the reference]
@@ -115,7 +117,8 @@ module _ {M : Type 1} (𝓤 : URA M) (H : Heap 𝓤) (A : Atoms 𝓤) (W : Given
       owned ! u32 (Is u32) (uint-makes 𝓤 H A W w32) m _ (refl, m-fits) $ fjoin ! $
       move ! (1 ∷ 0 ∷ []) $ join ! $ frame ! $ done !
 
-  exits : Is P h (vals h) → (r : Stepped) → Is S.the-row r (LL.vals S.the-type S′.the-laws r) → Good (r .moved) (r .packet) → ent 𝓤 (⋆ 𝓤 H A (‵ (flft κ q) ∷ ‵ Own ∷ [])) (Post (LL.val S.the-type S′.the-laws r))
+  exits : Is P h (vals h) → (r : Stepped) → Is S.the-row r (LL.vals S.the-type S′.the-laws r) → Good (r .moved) (r .packet) →
+      ent 𝓤 (⋆ 𝓤 H A (‵ (flft κ q) ∷ ‵ Own ∷ [])) (Post (LL.val S.the-type S′.the-laws r))
   exits was r is e =
       qed W (‵ (flft κ q) ∷ ‵ Own ∷ []) ∵
       suffices ! _ (ends-at 𝓤 H A moved-on.ended stayed (moved-on.clauses 𝓤 H A at-mem run) W (((κ, tt), (q, tt), tt, a, at), tt) (LL.val S.the-type S′.the-laws r) r (tt, (tt, (tt, (tt, tt)))) (tt, (tt, (tt, (tt, tt))))) $
@@ -129,11 +132,14 @@ module _ {M : Type 1} (𝓤 : URA M) (H : Heap 𝓤) (A : Atoms 𝓤) (W : Given
   abbrev both : Moved → Unit {0} × (Unit {0} × (Unit {0} × (Packet × Unit {0}))) → Stepped
   both r ws = record { packet = ws .1 .1 .1 .0; moved = r }
 
-  both-is : (r : Moved) (ws : Unit {0} × (Unit {0} × (Unit {0} × (Packet × Unit {0})))) → Is P (ws .1 .1 .1 .0) (vals (ws .1 .1 .1 .0)) → Is E.the-row r (EL.vals E.the-type E′.the-laws r) → Is S.the-row (both r ws) (LL.vals S.the-type S′.the-laws (both r ws))
+  both-is : (r : Moved) (ws : Unit {0} × (Unit {0} × (Unit {0} × (Packet × Unit {0})))) →
+      Is P (ws .1 .1 .1 .0) (vals (ws .1 .1 .1 .0)) → Is E.the-row r (EL.vals E.the-type E′.the-laws r) →
+      Is S.the-row (both r ws) (LL.vals S.the-type S′.the-laws (both r ws))
   both-is r ws p e = LL.owes S.the-type S′.the-laws (both r ws) (p, (e, tt))
 
   module _ (C : Calls 𝓤 H) (Λ : Loops 𝓤 H) (fm : FmC 𝓤 H (W .laws) C) (known : Triple 𝓤 (C #move-on) (MoveOn 𝓤 H A at-mem run)) where
-    walk : Is (ShrSlice (named 0) κ u8) s (v ∷ []) → Is P h (vals h) → ent 𝓤 (onEntry 𝓤 H A moved-on.signature (κ, tt) (q, tt) a at) (WpFn 𝓤 H C Λ code.function (vint w32 m ∷ vint w32 n ∷ v ∷ LL.val T.the-type T′.the-laws h ∷ []) Post)
+    walk : Is (ShrSlice (named 0) κ u8) s (v ∷ []) → Is P h (vals h) →
+        ent 𝓤 (onEntry 𝓤 H A moved-on.signature (κ, tt) (q, tt) a at) (WpFn 𝓤 H C Λ code.function (vint w32 m ∷ vint w32 n ∷ v ∷ LL.val T.the-type T′.the-laws h ∷ []) Post)
     unfolding partOf
     walk p was =
         qed W ((‵ (flft κ q) ⊛ ‵ ftrue) ∷ ‵ (owns (u32 ∷ u32 ∷ ShrSlice (named 0) κ u8 ∷ P ∷ []) a at) ∷ []) ∵
@@ -179,14 +185,16 @@ module _ {M : Type 1} (𝓤 : URA M) (H : Heap 𝓤) (A : Atoms 𝓤) (W : Given
         by ! (exits was (both r ws) (both-is r ws is′ (EL.owes E.the-type E′.the-laws r (EL.owed E.the-type E′.the-laws r _ is))) e)))))))))))))))))))
 
 module _ {M : Type 1} (𝓤 : URA M) (H : Heap 𝓤) (A : Atoms 𝓤) (W : Given 𝓤 H A) (at-mem : Memory → SProp 𝓤) (run : Routine → Fun 𝓤) where
-  walks : (C : Calls 𝓤 H) (Λ : Loops 𝓤 H) → FmC 𝓤 H (W .laws) C → Triple 𝓤 (C #move-on) (MoveOn 𝓤 H A at-mem run) → Walks 𝓤 H A moved-on.ended stayed (WpFn 𝓤 H C Λ code.function) (moved-on.clauses 𝓤 H A at-mem run)
+  walks : (C : Calls 𝓤 H) (Λ : Loops 𝓤 H) → FmC 𝓤 H (W .laws) C → Triple 𝓤 (C #move-on) (MoveOn 𝓤 H A at-mem run) →
+      Walks 𝓤 H A moved-on.ended stayed (WpFn 𝓤 H C Λ code.function) (moved-on.clauses 𝓤 H A at-mem run)
   walks C Λ fm known = walked 𝓤 H A moved-on.ended stayed (moved-on.clauses 𝓤 H A at-mem run) (WpFn 𝓤 H C Λ code.function) (λ κs. (uint-vals w32, (uint-vals w32, (slice-vals, (vals, tt))))) (λ κs. (uint-tells w32, (uint-tells w32, (shr-slice-tells (named 0) (κs .0) u8, (LL.tells T.the-type T′.the-laws, tt)))))
       (λ κs qs bounds a _ are. via 𝓤 _ (fst∗ 𝓤 _ (emp 𝓤)) (walk 𝓤 H A W at-mem run (κs .0) (qs .0) (a .0) (a .1 .0) (are .0 .1) (are .1 .0 .1) (a .1 .1 .0) (a .1 .1 .1 .0) C Λ fm known (are .1 .1 .0) (are .1 .1 .1 .0)))
 
   goes : AllGo 𝓤 H A W 1 (moved-on.signature .params) (moved-on.ended .kept) stayed
   goes = (goes-none 𝓤 H A W 1 (λ _. u32) yes (λ κs x f. refl), (goes-none 𝓤 H A W 1 (λ _. u32) yes (λ κs x f. refl), (goes-none-slice 𝓤 H A W 1 (0 ∷ []) tt (plain (λ _. u8)) yes, (goes-none 𝓤 H A W 1 (λ _. T.the-row) yes (λ κs x f. refl), tt))))
 
-  meets : (𝓣 : Tables 𝓤 H) → Triple 𝓤 (𝓣 .C #move-on) (MoveOn 𝓤 H A at-mem run) → Meets 𝓤 H A moved-on.signature (WpFn 𝓤 H (𝓣 .C) (𝓣 .Λ) code.function) (moved-on.spec 𝓤 H A at-mem run)
+  meets : (𝓣 : Tables 𝓤 H) → Triple 𝓤 (𝓣 .C #move-on) (MoveOn 𝓤 H A at-mem run) →
+      Meets 𝓤 H A moved-on.signature (WpFn 𝓤 H (𝓣 .C) (𝓣 .Λ) code.function) (moved-on.spec 𝓤 H A at-mem run)
   meets 𝓣 known = walk-meets 𝓤 H A moved-on.ended stayed W goes (moved-on.clauses 𝓤 H A at-mem run) (WpFn 𝓤 H (𝓣 .C) (𝓣 .Λ) code.function) (WpFn-mono 𝓤 H (W .laws) 𝓣 code.function) (walks (𝓣 .C) (𝓣 .Λ) (fmOf 𝓤 H (W .laws) 𝓣) known)
 
 pub moved-on-spec : {M : Type 1} → stated.statement M

@@ -14,28 +14,58 @@ is-upright-requires : tie.Need-is-upright-requires
 is-upright-requires c κs = search needs
 
 returns : tie.Need-returns
-returns c = unsafe-east _ _ _ (c .before .before .before .before .is-bad-ahead .ensures) (c .before .before .before .is-bad-ahead2 .ensures) (c .before .before .is-upright .ensures) (c .before .if1 .taken) (c .if2 .taken)
+returns c =
+    let at-is-upright = c .before .before in
+    let at-is-bad-ahead = at-is-upright .before .before in
+    unsafe-east _ _ _ (at-is-bad-ahead .is-bad-ahead .ensures) (at-is-upright .before .is-bad-ahead2 .ensures)
+    (at-is-upright .is-upright .ensures) (c .before .if1 .taken) (c .if2 .taken)
 
 returns-2 : tie.Need-returns-2
-returns-2 c = unsafe-west _ _ _ (c .before .before .before .before .before .is-bad-ahead .ensures) (c .before .before .before .before .is-bad-ahead2 .ensures) (c .before .before .before .is-upright .ensures) (c .before .before .if1 .taken) (c .before .if2 .left) (c .if3 .taken)
+returns-2 c =
+    let at-if1 = c .before .before in
+    let at-is-bad-ahead2 = at-if1 .before .before in
+    unsafe-west _ _ _ (at-is-bad-ahead2 .before .is-bad-ahead .ensures) (at-is-bad-ahead2 .is-bad-ahead2 .ensures)
+    (at-if1 .before .is-upright .ensures) (at-if1 .if1 .taken) (c .before .if2 .left) (c .if3 .taken)
 
 is-bad-ahead-requires-3 : tie.Need-is-bad-ahead-requires-3
 is-bad-ahead-requires-3 c κs = search needs
 
 returns-3 : tie.Need-returns-3
-returns-3 c = unsafe-second-east _ _ _ (c .before .before .before .before .before .before .before .is-bad-ahead .ensures) (c .before .before .before .before .before .before .is-bad-ahead2 .ensures) (c .before .before .before .before .before .is-upright .ensures) (c .before .before .before .before .if1 .taken) (c .before .before .before .if2 .left) (c .before .before .if3 .left) (c .before .is-bad-ahead3 .ensures) (c .if4 .taken)
+returns-3 c =
+    let at-if3 = c .before .before in
+    let at-if1 = at-if3 .before .before in
+    let at-is-bad-ahead2 = at-if1 .before .before in
+    unsafe-second-east _ _ _ (at-is-bad-ahead2 .before .is-bad-ahead .ensures)
+    (at-is-bad-ahead2 .is-bad-ahead2 .ensures) (at-if1 .before .is-upright .ensures) (at-if1 .if1 .taken)
+    (at-if3 .before .if2 .left) (at-if3 .if3 .left) (c .before .is-bad-ahead3 .ensures) (c .if4 .taken)
 
 is-bad-ahead-requires-4 : tie.Need-is-bad-ahead-requires-4
 is-bad-ahead-requires-4 c κs = search needs
 
 returns-4 : tie.Need-returns-4
-returns-4 c = unsafe-second-west _ _ _ (c .before .before .before .before .before .before .before .before .is-bad-ahead .ensures) (c .before .before .before .before .before .before .before .is-bad-ahead2 .ensures) (c .before .before .before .before .before .before .is-upright .ensures) (c .before .before .before .before .before .if1 .taken) (c .before .before .before .before .if2 .left) (c .before .before .before .if3 .left) (c .before .before .is-bad-ahead3 .ensures) (c .before .if4 .left) (c .is-bad-ahead4 .ensures)
+returns-4 c =
+    let at-is-bad-ahead3 = c .before .before in
+    let at-if2 = at-is-bad-ahead3 .before .before in
+    let at-is-upright = at-if2 .before .before in
+    let at-is-bad-ahead = at-is-upright .before .before in
+    unsafe-second-west _ _ _ (at-is-bad-ahead .is-bad-ahead .ensures) (at-is-upright .before .is-bad-ahead2 .ensures)
+    (at-is-upright .is-upright .ensures) (at-if2 .before .if1 .taken) (at-if2 .if2 .left)
+    (at-is-bad-ahead3 .before .if3 .left) (at-is-bad-ahead3 .is-bad-ahead3 .ensures) (c .before .if4 .left)
+    (c .is-bad-ahead4 .ensures)
 
 returns-5 : tie.Need-returns-5
-returns-5 c = unsafe-flat _ _ _ (c .before .before .before .before .is-bad-ahead .ensures) (c .before .before .before .is-bad-ahead2 .ensures) (c .before .before .is-upright .ensures) (c .before .if1 .left) (c .if5 .taken)
+returns-5 c =
+    let at-is-upright = c .before .before in
+    let at-is-bad-ahead = at-is-upright .before .before in
+    unsafe-flat _ _ _ (at-is-bad-ahead .is-bad-ahead .ensures) (at-is-upright .before .is-bad-ahead2 .ensures)
+    (at-is-upright .is-upright .ensures) (c .before .if1 .left) (c .if5 .taken)
 
 returns-6 : tie.Need-returns-6
-returns-6 c = unsafe-none _ _ _ (c .before .before .before .before .is-bad-ahead .ensures) (c .before .before .before .is-bad-ahead2 .ensures) (c .before .before .is-upright .ensures) (c .before .if1 .left) (c .if5 .left)
+returns-6 c =
+    let at-is-upright = c .before .before in
+    let at-is-bad-ahead = at-is-upright .before .before in
+    unsafe-none _ _ _ (at-is-bad-ahead .is-bad-ahead .ensures) (at-is-upright .before .is-bad-ahead2 .ensures)
+    (at-is-upright .is-upright .ensures) (c .before .if1 .left) (c .if5 .left)
 
 pub is-unsafe-spec : {M : Type 1} → statement M
 is-unsafe-spec =

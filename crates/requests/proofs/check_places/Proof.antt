@@ -15,22 +15,40 @@ is-off-mesh-requires-2 : tie.Need-is-off-mesh-requires-2
 is-off-mesh-requires-2 c κs = search needs
 
 returns-2 : tie.Need-returns-2
-returns-2 c = destination-off _ _ _ (c .before .before .before .is-off-mesh .ensures _) (c .before .before .if1 .left) (c .before .is-off-mesh2 .ensures _) (c .if2 .taken)
+returns-2 c =
+    destination-off _ _ _ (c .before .before .before .is-off-mesh .ensures _) (c .before .before .if1 .left)
+    (c .before .is-off-mesh2 .ensures _) (c .if2 .taken)
 
 is-in-block-requires : tie.Need-is-in-block-requires
 is-in-block-requires c κs = search needs
 
 returns-3 : tie.Need-returns-3
-returns-3 c = source-in _ _ _ (c .before .before .before .before .before .is-off-mesh .ensures _) (c .before .before .before .before .if1 .left) (c .before .before .before .is-off-mesh2 .ensures _) (c .before .before .if2 .left) (c .before .is-in-block .ensures) (c .if3 .taken)
+returns-3 c =
+    let at-if2 = c .before .before in
+    let at-if1 = at-if2 .before .before in
+    source-in _ _ _ (at-if1 .before .is-off-mesh .ensures _) (at-if1 .if1 .left)
+    (at-if2 .before .is-off-mesh2 .ensures _) (at-if2 .if2 .left) (c .before .is-in-block .ensures) (c .if3 .taken)
 
 is-in-block-requires-2 : tie.Need-is-in-block-requires-2
 is-in-block-requires-2 c κs = search needs
 
 returns-4 : tie.Need-returns-4
-returns-4 c = destination-in _ _ _ (c .before .before .before .before .before .before .before .is-off-mesh .ensures _) (c .before .before .before .before .before .before .if1 .left) (c .before .before .before .before .before .is-off-mesh2 .ensures _) (c .before .before .before .before .if2 .left) (c .before .before .before .is-in-block .ensures) (c .before .before .if3 .left) (c .before .is-in-block2 .ensures) (c .if4 .taken)
+returns-4 c =
+    let at-if3 = c .before .before in
+    let at-if2 = at-if3 .before .before in
+    let at-if1 = at-if2 .before .before in
+    destination-in _ _ _ (at-if1 .before .is-off-mesh .ensures _) (at-if1 .if1 .left)
+    (at-if2 .before .is-off-mesh2 .ensures _) (at-if2 .if2 .left) (at-if3 .before .is-in-block .ensures)
+    (at-if3 .if3 .left) (c .before .is-in-block2 .ensures) (c .if4 .taken)
 
 returns-5 : tie.Need-returns-5
-returns-5 c = none-applies _ _ _ (c .before .before .before .before .before .before .before .is-off-mesh .ensures _) (c .before .before .before .before .before .before .if1 .left) (c .before .before .before .before .before .is-off-mesh2 .ensures _) (c .before .before .before .before .if2 .left) (c .before .before .before .is-in-block .ensures) (c .before .before .if3 .left) (c .before .is-in-block2 .ensures) (c .if4 .left)
+returns-5 c =
+    let at-if3 = c .before .before in
+    let at-if2 = at-if3 .before .before in
+    let at-if1 = at-if2 .before .before in
+    none-applies _ _ _ (at-if1 .before .is-off-mesh .ensures _) (at-if1 .if1 .left)
+    (at-if2 .before .is-off-mesh2 .ensures _) (at-if2 .if2 .left) (at-if3 .before .is-in-block .ensures)
+    (at-if3 .if3 .left) (c .before .is-in-block2 .ensures) (c .if4 .left)
 
 pub check-places-spec : {M : Type 1} → statement M
 check-places-spec =

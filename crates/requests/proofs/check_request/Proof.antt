@@ -31,12 +31,14 @@ is-unserved-requires c κs =
 returns-2 : tie.Need-returns-2
 returns-2 c =
     let at-clear = c .before .before in
-    unserved-refused _ _ _ (at-clear .before .before .check-trip .ensures) (at-clear .enum-told .given .1) (c .before .is-unserved .ensures) (c .if1 .taken)
+    unserved-refused _ _ _ (at-clear .before .before .check-trip .ensures) (at-clear .enum-told .given .1)
+    (c .before .is-unserved .ensures) (c .if1 .taken)
 
 returns-3 : tie.Need-returns-3
 returns-3 c =
     let at-clear = c .before .before in
-    unserved-clear _ _ _ (at-clear .before .before .check-trip .ensures) (at-clear .enum-told .given .1) (c .before .is-unserved .ensures) (c .if1 .left)
+    unserved-clear _ _ _ (at-clear .before .before .check-trip .ensures) (at-clear .enum-told .given .1)
+    (c .before .is-unserved .ensures) (c .if1 .left)
 
 pub check-request-spec : {M : Type 1} → statement M
 check-request-spec =

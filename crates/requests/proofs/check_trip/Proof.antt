@@ -27,7 +27,8 @@ is-on-ring-requires c κs =
 returns-2 : tie.Need-returns-2
 returns-2 c =
     let at-clear = c .before .before in
-    ring-refused _ _ _ (at-clear .before .before .check-places .ensures) (at-clear .enum-told .given .1) (c .before .is-on-ring .ensures) (c .if1 .taken)
+    ring-refused _ _ _ (at-clear .before .before .check-places .ensures) (at-clear .enum-told .given .1)
+    (c .before .is-on-ring .ensures) (c .if1 .taken)
 
 returns-3 : tie.Need-returns-3
 returns-3 c =

@@ -17,7 +17,9 @@ is-bad-ahead-requires c κs = search needs
 
 returns-2 : tie.Need-returns-2
 unfolding unserved
-returns-2 c = served-open _ _ _ (c .before .before .before .turns-west .ensures) (c .before .before .if1 .left) (c .before .is-bad-ahead .ensures) (c .if2 .taken)
+returns-2 c =
+    served-open _ _ _ (c .before .before .before .turns-west .ensures) (c .before .before .if1 .left)
+    (c .before .is-bad-ahead .ensures) (c .if2 .taken)
 
 returns-3 : tie.Need-returns-3
 unfolding unserved
@@ -26,7 +28,8 @@ returns-3 c =
     let at-is-bad-ahead = at-if2 .before in
     let at-if1 = at-is-bad-ahead .before in
     let at-turns-west = at-if1 .before in
-    shut-row _ _ _ (at-turns-west .turns-west .ensures) (at-if1 .if1 .left) (at-is-bad-ahead .is-bad-ahead .ensures) (at-if2 .if2 .left) (c .if3 .taken)
+    shut-row _ _ _ (at-turns-west .turns-west .ensures) (at-if1 .if1 .left) (at-is-bad-ahead .is-bad-ahead .ensures)
+    (at-if2 .if2 .left) (c .if3 .taken)
 
 returns-4 : tie.Need-returns-4
 unfolding unserved
@@ -35,7 +38,8 @@ returns-4 c =
     let at-is-bad-ahead = at-if2 .before in
     let at-if1 = at-is-bad-ahead .before in
     let at-turns-west = at-if1 .before in
-    shut-west _ _ _ (at-turns-west .turns-west .ensures) (at-if1 .if1 .left) (at-is-bad-ahead .is-bad-ahead .ensures) (at-if2 .if2 .left) (c .before .before .if3 .left)
+    shut-west _ _ _ (at-turns-west .turns-west .ensures) (at-if1 .if1 .left) (at-is-bad-ahead .is-bad-ahead .ensures)
+    (at-if2 .if2 .left) (c .before .before .if3 .left)
 
 pub is-unserved-spec : {M : Type 1} → statement M
 is-unserved-spec =

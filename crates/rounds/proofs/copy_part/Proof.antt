@@ -37,7 +37,16 @@ loop-less : tie.Need-loop-less Inv-loop μ-loop
 loop-less c = omega arith
 
 loop-again : tie.Need-loop-again Inv-loop μ-loop
-loop-again c = (omega arith, omega arith, simp length-set (omega arith), ⊎-elim (λ w. copied-differ _ _ _ _ _ (c .before .before .before .before .before .loop .inv .3) (c .before .before .before .before .before .loop .inv .0) (omega arith) (w .0 .taken) (w .1)) (λ w. copied-same _ _ _ _ _ (c .before .before .before .before .before .loop .inv .3) (c .before .before .before .before .before .loop .inv .0) (omega arith) (w .0 .left) (w .1)) (c .before .if1 .came))
+loop-again c =
+    let at-loop = c .before .before .before .before .before in (
+      omega arith,
+      omega arith,
+      simp length-set (omega arith),
+      ⊎-elim
+          (λ w. copied-differ _ _ _ _ _ (at-loop .loop .inv .3) (at-loop .loop .inv .0) (omega arith) (w .0 .taken) (w .1))
+          (λ w. copied-same _ _ _ _ _ (at-loop .loop .inv .3) (at-loop .loop .inv .0) (omega arith) (w .0 .left) (w .1))
+          (c .before .if1 .came),
+    )
 
 same-length : tie.Need-same-length Inv-loop μ-loop
 same-length c = omega arith

@@ -19,28 +19,61 @@ loop-holds : tie.Need-loop-holds Inv-loop μ-loop
 loop-holds c = (omega arith, refl, refl, copying-none _ _ (c .before .before .before .before .pre .0 .size))
 
 copy-row-requires : tie.Need-copy-row-requires Inv-loop μ-loop
-copy-row-requires c κs = (record { few-columns = c .before .before .before .before .before .before .before .pre .0 .few-columns; few-rows = c .before .before .before .before .before .before .before .pre .0 .few-rows; size = c .before .before .loop .inv .3 .size }, c .before .loop-test .taken, c .before .before .before .before .before .before .before .pre .2, omega arith)
+copy-row-requires c κs =
+    let at-loop = c .before .before in
+    let asked = at-loop .before .before .before .before .before .pre in (
+      record {
+        few-columns = asked .0 .few-columns;
+        few-rows = asked .0 .few-rows;
+        size = at-loop .loop .inv .3 .size;
+      },
+      c .before .loop-test .taken,
+      asked .2,
+      omega arith,
+    )
 
 cast-changed : tie.Need-cast-changed Inv-loop μ-loop
-cast-changed c = omega (arith, c .before .before .before .before .before .before .before .before .before .before .before .pre .0 .few-rows)
+cast-changed c =
+    let asked = c .before .before .before .before .before .before .before .before .before .before .before .pre in
+    omega (arith, asked .0 .few-rows)
 
 slice-write-changed : tie.Need-slice-write-changed Inv-loop μ-loop
 slice-write-changed c = omega arith
 
 cast-changed-2 : tie.Need-cast-changed-2 Inv-loop μ-loop
-cast-changed-2 c = omega (arith, c .before .before .before .before .before .before .before .before .before .before .before .pre .0 .few-rows)
+cast-changed-2 c =
+    let asked = c .before .before .before .before .before .before .before .before .before .before .before .pre in
+    omega (arith, asked .0 .few-rows)
 
 slice-write-changed-2 : tie.Need-slice-write-changed-2 Inv-loop μ-loop
 slice-write-changed-2 c = omega arith
 
 add-row : tie.Need-add-row Inv-loop μ-loop
-add-row c = omega (arith, c .before .before .before .before .before .before .before .before .before .before .before .pre .0 .few-rows)
+add-row c =
+    let asked = c .before .before .before .before .before .before .before .before .before .before .before .pre in
+    omega (arith, asked .0 .few-rows)
 
 loop-less : tie.Need-loop-less Inv-loop μ-loop
 loop-less c = omega arith
 
 loop-again : tie.Need-loop-again Inv-loop μ-loop
-loop-again c = (omega arith, ⊎-elim (λ w. rw (w .1, length-set) (c .before .before .before .before .before .before .loop .inv .1)) (λ w. rw (w .1, length-set) (c .before .before .before .before .before .before .loop .inv .1)) (c .if1 .came), c .before .before .before .copy-row .kept .1 .1 .1 .1 .0 ∙ c .before .before .before .before .before .before .loop .inv .2, let done = row-done (c .before .before .before .before .before .before .loop .inv .3) (c .before .before .before .before .before .loop-test .taken) (c .before .before .before .before .before .before .before .before .before .before .before .pre .4) (c .before .before .before .before .before .before .before .before .before .before .before .pre .5) (c .before .before .before .copy-row .ensures) in ⊎-elim (λ w. rw (w .1) (copying-changed (c .before .before .before .before .before .before .loop .inv .3) (c .before .before .before .before .before .loop-test .taken) done (omega arith) (w .0 .taken) (w .2))) (λ w. rw (w .1) (copying-same (c .before .before .before .before .before .before .loop .inv .3) (c .before .before .before .before .before .loop-test .taken) done (omega arith) (w .0 .left) (w .2))) (c .if1 .came))
+loop-again c =
+    let at-copy-row = c .before .before .before in
+    let at-loop-test = at-copy-row .before .before in
+    let at-loop = at-loop-test .before in
+    let asked = at-loop .before .before .before .before .before .pre in (
+      omega arith,
+      ⊎-elim (λ w. rw (w .1, length-set) (at-loop .loop .inv .1)) (λ w. rw (w .1, length-set) (at-loop .loop .inv .1))
+          (c .if1 .came),
+      at-copy-row .copy-row .kept .1 .1 .1 .1 .0 ∙ at-loop .loop .inv .2,
+      let done =
+          row-done (at-loop .loop .inv .3) (at-loop-test .loop-test .taken) (asked .4) (asked .5)
+          (at-copy-row .copy-row .ensures) in
+          ⊎-elim
+          (λ w. rw (w .1) (copying-changed (at-loop .loop .inv .3) (at-loop-test .loop-test .taken) done (omega arith) (w .0 .taken) (w .2)))
+          (λ w. rw (w .1) (copying-same (at-loop .loop .inv .3) (at-loop-test .loop-test .taken) done (omega arith) (w .0 .left) (w .2)))
+          (c .if1 .came),
+    )
 
 same-length : tie.Need-same-length Inv-loop μ-loop
 same-length c = omega arith
@@ -49,7 +82,9 @@ same-length-2 : tie.Need-same-length-2 Inv-loop μ-loop
 same-length-2 c = omega arith
 
 returns : tie.Need-returns Inv-loop μ-loop
-returns c = copying-all (c .before .before .before .before .before .before .pre .0 .size) (omega arith) (c .before .loop .inv .3)
+returns c =
+    let asked = c .before .before .before .before .before .before .pre in
+    copying-all (asked .0 .size) (omega arith) (c .before .loop .inv .3)
 
 pub copy-round-spec : {M : Type 1} → statement M
 copy-round-spec =

@@ -16,25 +16,44 @@ returns : tie.Need-returns
 returns c = record { kept = λ e. (refl, refl); copied = λ e. absurd (e (c .if1 .taken)) }
 
 mul-start : tie.Need-mul-start
-mul-start c = let h = row-fits (c .before .before .before .before .before .pre .0) (c .before .before .before .before .before .pre .1) in omega arith
+mul-start c =
+    let asked = c .before .before .before .before .before .pre in
+    let h = row-fits (asked .0) (asked .1) in
+    omega arith
 
 add-end : tie.Need-add-end
-add-end c = let h = row-fits (c .before .before .before .before .before .pre .0) (c .before .before .before .before .before .pre .1) in omega arith
+add-end c =
+    let asked = c .before .before .before .before .before .pre in
+    let h = row-fits (asked .0) (asked .1) in
+    omega arith
 
 cast-copy-part : tie.Need-cast-copy-part
-cast-copy-part c = let h = row-fits (c .before .before .before .before .before .before .pre .0) (c .before .before .before .before .before .before .pre .1) in omega arith
+cast-copy-part c =
+    let asked = c .before .before .before .before .before .before .pre in
+    let h = row-fits (asked .0) (asked .1) in
+    omega arith
 
 cast-copy-part-2 : tie.Need-cast-copy-part-2
-cast-copy-part-2 c = let h = row-fits (c .before .before .before .before .before .before .pre .0) (c .before .before .before .before .before .before .pre .1) in omega arith
+cast-copy-part-2 c =
+    let asked = c .before .before .before .before .before .before .pre in
+    let h = row-fits (asked .0) (asked .1) in
+    omega arith
 
 copy-part-requires : tie.Need-copy-part-requires
-copy-part-requires c κs = let h = row-fits (c .before .before .before .before .before .before .pre .0) (c .before .before .before .before .before .before .pre .1) in omega arith
+copy-part-requires c κs =
+    let asked = c .before .before .before .before .before .before .pre in
+    let h = row-fits (asked .0) (asked .1) in
+    omega arith
 
 same-length : tie.Need-same-length
 same-length c = search needs
 
 returns-2 : tie.Need-returns-2
-returns-2 c = record { kept = λ e. absurd (c .before .before .before .before .if1 .left e); copied = λ e. c .before .before .copy-part .ensures }
+returns-2 c =
+    record {
+      kept = λ e. absurd (c .before .before .before .before .if1 .left e);
+      copied = λ e. c .before .before .copy-part .ensures;
+    }
 
 pub copy-row-spec : {M : Type 1} → statement M
 copy-row-spec =

@@ -18,7 +18,13 @@ same-length : tie.Need-same-length
 same-length c = search needs
 
 returns : tie.Need-returns
-returns c = c .before .before .settle .ensures ∙ ap (λ m. marked (mesh (c .before .before .before .before .before .before .before .before .before .before .args .columns) (c .before .before .before .before .before .before .before .before .before .before .args .rows) m) .map) (copied-all _ _ _ _ (c .before .before .before .before .before .before .before .before .before .before .pre .1) (c .before .before .before .before .before .before .copy-part .ensures))
+returns c =
+    let at-settle = c .before .before in
+    let at-copy-part = at-settle .before .before .before .before in
+    let entry = at-copy-part .before .before .before .before in
+    at-settle .settle .ensures ∙
+    ap (λ m. marked (mesh (entry .args .columns) (entry .args .rows) m) .map)
+    (copied-all _ _ _ _ (entry .pre .1) (at-copy-part .copy-part .ensures))
 
 pub mark-spec : {M : Type 1} → statement M
 mark-spec = tie.close (tie.spec copy-part-requires settle-requires same-length returns)

@@ -34,10 +34,18 @@ shared-slice-read-result : tie.Need-shared-slice-read-result
 shared-slice-read-result c = search needs
 
 returns-3 : tie.Need-returns-3
-returns-3 c = near-north _ _ _ (c .before .before .before .if1 .left) (⊎-elim (λ w. w .2 .left) (λ w. no-south (c .before .before .before .before .before .args .changed .now) _ (w .left) (c .before .before .before .if1 .left)) (c .before .before .if2 .came)) (c .before .if4 .taken)
+returns-3 c =
+    let at-if2 = c .before .before in
+    let entry = at-if2 .before .before .before in
+    near-north _ _ _ (at-if2 .before .if1 .left)
+    (⊎-elim (λ w. w .2 .left) (λ w. no-south (entry .args .changed .now) _ (w .left) (at-if2 .before .if1 .left)) (at-if2 .if2 .came))
+    (c .before .if4 .taken)
 
 returns-4 : tie.Need-returns-4
-returns-4 c = near-none _ _ _ (c .before .before .if1 .left) (⊎-elim (λ w. w .2 .left) (λ w. no-south (c .before .before .before .before .args .changed .now) _ (w .left) (c .before .before .if1 .left)) (c .before .if2 .came)) (omega arith)
+returns-4 c =
+    near-none _ _ _ (c .before .before .if1 .left)
+    (⊎-elim (λ w. w .2 .left) (λ w. no-south (c .before .before .before .before .args .changed .now) _ (w .left) (c .before .before .if1 .left)) (c .before .if2 .came))
+    (omega arith)
 
 pub near-spec : {M : Type 1} → statement M
 near-spec =

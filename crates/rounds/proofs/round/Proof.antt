@@ -26,22 +26,36 @@ shared-slice-read-if1 : tie.Need-shared-slice-read-if1 Inv-loop μ-loop
 shared-slice-read-if1 c = omega arith
 
 round-row-requires : tie.Need-round-row-requires Inv-loop μ-loop
-round-row-requires c κs = (c .before .before .before .before .before .before .before .before .pre .0, c .before .before .before .loop-test .taken, omega arith)
+round-row-requires c κs =
+    let at-loop-test = c .before .before .before in
+    let asked = at-loop-test .before .before .before .before .before .pre in
+    (asked .0, at-loop-test .loop-test .taken, omega arith)
 
 add-row : tie.Need-add-row Inv-loop μ-loop
-add-row c = omega (arith, c .before .before .before .before .before .before .before .pre .0 .few-rows)
+add-row c =
+    let asked = c .before .before .before .before .before .before .before .pre in
+    omega (arith, asked .0 .few-rows)
 
 loop-less : tie.Need-loop-less Inv-loop μ-loop
 loop-less c = omega arith
 
 loop-again : tie.Need-loop-again Inv-loop μ-loop
-loop-again c = (omega arith, ⊎-elim (λ w. ap length (w .5) ∙ w .2 .ensures .size ∙ c .before .before .before .loop .inv .1) (λ w. ap length (w .1) ∙ c .before .before .before .loop .inv .1) (c .if1 .came), ⊎-elim (λ w. rw (w .5) (due-row _ _ _ _ (c .before .before .before .loop .inv .2) (w .2 .ensures))) (λ w. rw (w .1) (due-not _ _ _ _ (c .before .before .before .loop .inv .2) (w .0 .left))) (c .if1 .came))
+loop-again c =
+    let at-loop = c .before .before .before in (
+      omega arith,
+      ⊎-elim (λ w. ap length (w .5) ∙ w .2 .ensures .size ∙ at-loop .loop .inv .1)
+          (λ w. ap length (w .1) ∙ at-loop .loop .inv .1) (c .if1 .came),
+      ⊎-elim (λ w. rw (w .5) (due-row _ _ _ _ (at-loop .loop .inv .2) (w .2 .ensures)))
+          (λ w. rw (w .1) (due-not _ _ _ _ (at-loop .loop .inv .2) (w .0 .left))) (c .if1 .came),
+    )
 
 same-length : tie.Need-same-length Inv-loop μ-loop
 same-length c = omega arith
 
 returns : tie.Need-returns Inv-loop μ-loop
-returns c = let e : c .before .loop .row ≡ c .before .before .before .before .before .args .rows = omega arith in rw e at (c .before .loop .inv .2)
+returns c =
+    let e : c .before .loop .row ≡ c .before .before .before .before .before .args .rows = omega arith in
+    rw e at (c .before .loop .inv .2)
 
 pub round-spec : {M : Type 1} → statement M
 round-spec =

@@ -20,7 +20,17 @@ slice-aggregate-copy-round : tie.Need-slice-aggregate-copy-round
 slice-aggregate-copy-round c = search needs
 
 copy-round-requires : tie.Need-copy-round-requires
-copy-round-requires c κs = (c .before .before .before .before .before .before .before .before .before .before .before .before .before .before .before .before .before .pre .0, c .before .before .before .before .before .before .before .before .before .before .before .before .before .before .before .before .before .pre .2, search needs, search needs, c .before .before .before .before .before .before .round .ensures, others-settled (c .before .before .before .before .before .before .before .before .before .before .before .before .before .before .before .before .before .pre .3) (c .before .before .before .before .before .before .before .before .before .before .before .spread .ensures))
+copy-round-requires c κs =
+    let at-round = c .before .before .before .before .before .before in
+    let at-spread = at-round .before .before .before .before .before in
+    let asked = at-spread .before .before .before .before .before .before .pre in (
+      asked .0,
+      asked .2,
+      search needs,
+      search needs,
+      at-round .round .ensures,
+      others-settled (asked .3) (at-spread .spread .ensures),
+    )
 
 same-length : tie.Need-same-length
 same-length c = search needs

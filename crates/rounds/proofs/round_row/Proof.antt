@@ -22,16 +22,28 @@ loop-holds : tie.Need-loop-holds Inv-loop μ-loop
 loop-holds c = (omega arith, row-none _ _ _)
 
 add-at : tie.Need-add-at Inv-loop μ-loop
-add-at c = let h = at-fits _ _ _ _ _ (record { sized = c .before .before .before .before .pre .0; row = c .before .before .before .before .pre .1; column = c .loop-test .taken }) in omega arith
+add-at c =
+    let asked = c .before .before .before .before .pre in
+    let h = at-fits _ _ _ _ _ (record { sized = asked .0; row = asked .1; column = c .loop-test .taken }) in
+    omega arith
 
 node-requires : tie.Need-node-requires Inv-loop μ-loop
-node-requires c κs = record { sized = c .before .before .before .before .pre .0; row = c .before .before .before .before .pre .1; column = c .loop-test .taken }
+node-requires c κs =
+    let asked = c .before .before .before .before .pre in
+    record { sized = asked .0; row = asked .1; column = c .loop-test .taken }
 
 cast-next : tie.Need-cast-next Inv-loop μ-loop
-cast-next c = let h = at-fits _ _ _ _ _ (record { sized = c .before .before .before .before .before .pre .0; row = c .before .before .before .before .before .pre .1; column = c .before .loop-test .taken }) in omega arith
+cast-next c =
+    let asked = c .before .before .before .before .before .pre in
+    let h = at-fits _ _ _ _ _ (record { sized = asked .0; row = asked .1; column = c .before .loop-test .taken }) in
+    omega arith
 
 slice-write-next : tie.Need-slice-write-next Inv-loop μ-loop
-slice-write-next c = let h = at-fits _ _ _ _ _ (record { sized = c .before .before .before .before .before .pre .0; row = c .before .before .before .before .before .pre .1; column = c .before .loop-test .taken }) in omega (arith, c .before .before .loop .inv .1 .size)
+slice-write-next c =
+    let at-loop = c .before .before in
+    let asked = at-loop .before .before .before .pre in
+    let h = at-fits _ _ _ _ _ (record { sized = asked .0; row = asked .1; column = c .before .loop-test .taken }) in
+    omega (arith, at-loop .loop .inv .1 .size)
 
 add-column : tie.Need-add-column Inv-loop μ-loop
 add-column c = omega (arith, c .before .before .before .before .before .pre .0 .few-columns)
@@ -40,13 +52,22 @@ loop-less : tie.Need-loop-less Inv-loop μ-loop
 loop-less c = omega arith
 
 loop-again : tie.Need-loop-again Inv-loop μ-loop
-loop-again c = (omega arith, row-more _ _ _ _ _ _ (c .before .before .loop .inv .1) (let h = at-fits _ _ _ _ _ (record { sized = c .before .before .before .before .before .pre .0; row = c .before .before .before .before .before .pre .1; column = c .before .loop-test .taken }) in omega (arith, c .before .before .loop .inv .1 .size)) (c .node .ensures))
+loop-again c =
+    let at-loop = c .before .before in
+    let asked = at-loop .before .before .before .pre in (
+      omega arith,
+      row-more _ _ _ _ _ _ (at-loop .loop .inv .1)
+          (let h = at-fits _ _ _ _ _ (record { sized = asked .0; row = asked .1; column = c .before .loop-test .taken }) in omega (arith, at-loop .loop .inv .1 .size))
+          (c .node .ensures),
+    )
 
 same-length : tie.Need-same-length Inv-loop μ-loop
 same-length c = c .before .loop .inv .1 .size
 
 returns : tie.Need-returns Inv-loop μ-loop
-returns c = let e : c .before .loop .column ≡ c .before .before .before .before .args .columns = omega arith in rw e at (c .before .loop .inv .1)
+returns c =
+    let e : c .before .loop .column ≡ c .before .before .before .before .args .columns = omega arith in
+    rw e at (c .before .loop .inv .1)
 
 pub round-row-spec : {M : Type 1} → statement M
 round-row-spec =

@@ -25,13 +25,31 @@ slice-aggregate-round-in-place-2 : tie.Need-slice-aggregate-round-in-place-2 Inv
 slice-aggregate-round-in-place-2 c = omega arith
 
 round-in-place-requires : tie.Need-round-in-place-requires Inv-loop μ-loop
-round-in-place-requires c κs = (c .before .before .before .before .loop .inv .3 .sized, omega (arith, few-nodes _ _ (c .before .before .before .before .before .before .pre .few-columns) (c .before .before .before .before .before .before .pre .few-rows), c .before .before .before .before .loop .inv .3 .sized .size), omega (arith, c .before .before .before .before .before .before .pre .few-rows), c .before .before .before .before .loop .inv .3 .quiet)
+round-in-place-requires c κs =
+    let at-loop = c .before .before .before .before in
+    let asked = at-loop .before .before .pre in (
+      at-loop .loop .inv .3 .sized,
+      omega (arith, few-nodes _ _ (asked .few-columns) (asked .few-rows), at-loop .loop .inv .3 .sized .size),
+      omega (arith, asked .few-rows),
+      at-loop .loop .inv .3 .quiet,
+    )
 
 loop-less : tie.Need-loop-less Inv-loop μ-loop
-loop-less c = settling-less (c .before .before .before .before .before .before .before .before .before .loop .inv .3) (c .before .before .before .before .round-in-place .ensures) (c .before .before .before .before .before .before .before .before .loop-test .taken)
+loop-less c =
+    let at-round-in-place = c .before .before .before .before in
+    let at-loop-test = at-round-in-place .before .before .before .before in
+    settling-less (at-loop-test .before .loop .inv .3) (at-round-in-place .round-in-place .ensures)
+    (at-loop-test .loop-test .taken)
 
 loop-again : tie.Need-loop-again Inv-loop μ-loop
-loop-again c = (c .before .before .before .before .round-in-place .kept .1 .1 .0 ∙ c .before .before .before .before .before .before .before .before .before .loop .inv .0, c .before .before .before .before .round-in-place .kept .1 .1 .1 .0 ∙ c .before .before .before .before .before .before .before .before .before .loop .inv .1, c .before .before .before .before .round-in-place .kept .1 .1 .1 .1 .0 ∙ c .before .before .before .before .before .before .before .before .before .loop .inv .2, settling-more (c .before .before .before .before .before .before .before .before .before .loop .inv .3) (c .before .before .before .before .round-in-place .ensures))
+loop-again c =
+    let at-round-in-place = c .before .before .before .before in
+    let at-loop = at-round-in-place .before .before .before .before .before in (
+      at-round-in-place .round-in-place .kept .1 .1 .0 ∙ at-loop .loop .inv .0,
+      at-round-in-place .round-in-place .kept .1 .1 .1 .0 ∙ at-loop .loop .inv .1,
+      at-round-in-place .round-in-place .kept .1 .1 .1 .1 .0 ∙ at-loop .loop .inv .2,
+      settling-more (at-loop .loop .inv .3) (at-round-in-place .round-in-place .ensures),
+    )
 
 same-length : tie.Need-same-length Inv-loop μ-loop
 same-length c = omega arith

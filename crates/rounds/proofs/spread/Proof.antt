@@ -18,7 +18,9 @@ loop-holds : tie.Need-loop-holds Inv-loop μ-loop
 loop-holds c = (omega arith, refl, spread-none _ _ _)
 
 near-requires : tie.Need-near-requires Inv-loop μ-loop
-near-requires c κs = (c .before .before .before .before .pre .0, c .before .before .before .before .pre .1, c .loop-test .taken)
+near-requires c κs =
+    let asked = c .before .before .before .before .pre in
+    (asked .0, asked .1, c .loop-test .taken)
 
 cast-due : tie.Need-cast-due Inv-loop μ-loop
 cast-due c = omega arith
@@ -39,7 +41,9 @@ same-length : tie.Need-same-length Inv-loop μ-loop
 same-length c = omega arith
 
 returns : tie.Need-returns Inv-loop μ-loop
-returns c = let e : c .before .loop .row ≡ c .before .before .before .before .args .rows = omega arith in rw e at (c .before .loop .inv .2)
+returns c =
+    let e : c .before .loop .row ≡ c .before .before .before .before .args .rows = omega arith in
+    rw e at (c .before .loop .inv .2)
 
 pub spread-spec : {M : Type 1} → statement M
 spread-spec =

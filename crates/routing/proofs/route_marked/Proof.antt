@@ -55,7 +55,8 @@ returns-3 c =
     let marks = at-check .before .before .before .pre in
     let clear = told-clear _ (at-clear .enum-told .given .1) (at-check .check-request .ensures) in
     let fits = sym (past-room .before .has-room .ensures) ∙ not-false _ (past-room .if1 .left) in
-    routed _ _ _ _ clear (rest-hops _ _ _ _ _ marks (request _ _ _ clear)) fits (walked .straight .ensures .counts) (walked .straight .ensures .writes)
+    routed _ _ _ _ clear (rest-hops _ _ _ _ _ marks (request _ _ _ clear)) fits (walked .straight .ensures .counts)
+    (walked .straight .ensures .writes)
 
 pub route-marked-spec : {M : Type 1} → statement M
 route-marked-spec =

@@ -21,13 +21,15 @@ returns-2 : tie.Need-returns-2
 returns-2 c =
     let at-if1 = c .before .before .before in
     let at-is-own = at-if1 .before in
-    across-blocked _ _ _ _ (at-is-own .is-own .ensures _ _) (at-if1 .if1 .left) (c .before .before .toward .ensures _ refl) (c .before .is-bad-ahead .ensures) (c .if2 .taken)
+    across-blocked _ _ _ _ (at-is-own .is-own .ensures _ _) (at-if1 .if1 .left)
+    (c .before .before .toward .ensures _ refl) (c .before .is-bad-ahead .ensures) (c .if2 .taken)
 
 returns-3 : tie.Need-returns-3
 returns-3 c =
     let at-if1 = c .before .before .before in
     let at-is-own = at-if1 .before in
-    across-toward _ _ _ _ (at-is-own .is-own .ensures _ _) (at-if1 .if1 .left) (c .before .before .toward .ensures _ refl) (c .before .is-bad-ahead .ensures) (c .if2 .left)
+    across-toward _ _ _ _ (at-is-own .is-own .ensures _ _) (at-if1 .if1 .left)
+    (c .before .before .toward .ensures _ refl) (c .before .is-bad-ahead .ensures) (c .if2 .left)
 
 pub across-spec : {M : Type 1} → statement M
 across-spec =

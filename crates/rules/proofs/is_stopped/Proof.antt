@@ -21,7 +21,8 @@ returns-2 : tie.Need-returns-2
 returns-2 c =
     let at-is-bad-ahead = c .before .before .before in
     let at-side = at-is-bad-ahead .before in
-    stopped-not _ _ _ (at-side .side .ensures _ refl) (at-is-bad-ahead .is-bad-ahead .ensures) (c .before .before .if1 .left) (c .before .is-own .ensures _ _) (c .if2 .taken)
+    stopped-not _ _ _ (at-side .side .ensures _ refl) (at-is-bad-ahead .is-bad-ahead .ensures)
+    (c .before .before .if1 .left) (c .before .is-own .ensures _ _) (c .if2 .taken)
 
 is-bad-ahead-requires-2 : tie.Need-is-bad-ahead-requires-2
 is-bad-ahead-requires-2 c κs = search needs
@@ -31,7 +32,8 @@ returns-3 c =
     let at-if1 = c .before .before .before in
     let at-is-bad-ahead = at-if1 .before in
     let at-side = at-is-bad-ahead .before in
-    stopped-second _ _ _ (at-side .side .ensures _ refl) (at-is-bad-ahead .is-bad-ahead .ensures) (at-if1 .if1 .left) (c .before .before .is-own .ensures _ _) (c .before .if2 .left) (c .is-bad-ahead2 .ensures)
+    stopped-second _ _ _ (at-side .side .ensures _ refl) (at-is-bad-ahead .is-bad-ahead .ensures) (at-if1 .if1 .left)
+    (c .before .before .is-own .ensures _ _) (c .before .if2 .left) (c .is-bad-ahead2 .ensures)
 
 pub is-stopped-spec : {M : Type 1} → statement M
 is-stopped-spec =

@@ -22,8 +22,11 @@ nearing-requires c κs = search needs
 returns : tie.Need-returns
 unfolding nearsRow toward
 returns c =
-    let nears = sym (c .before .before .before .is-nearing .ensures) ∙ c .before .before .if1 .taken in
-    near-again _ _ _ _ (c .before .toward .ensures (tripOf (mesh 0 0 []) (c .before .before .before .before .before .args .p)) refl) nears (c .nearing .ensures)
+    let at-if1 = c .before .before in
+    let entry = at-if1 .before .before .before in
+    let nears = sym (at-if1 .before .is-nearing .ensures) ∙ at-if1 .if1 .taken in
+    near-again _ _ _ _ (c .before .toward .ensures (tripOf (mesh 0 0 []) (entry .args .p)) refl) nears
+    (c .nearing .ensures)
 
 go-round-requires : tie.Need-go-round-requires
 go-round-requires c κs =

@@ -20,15 +20,21 @@ count-free-requires c κs =
 returns : tie.Need-returns
 returns c =
     let counted = c .before in
-    let pre = counted .before .before .before .before .pre in
-    (omega arith, column-runs (pre .0) (pre .1) (counted .before .distance .ensures) (counted .before .before .toward .ensures _ refl) (counted .count-free .ensures))
+    let pre = counted .before .before .before .before .pre in (
+      omega arith,
+      column-runs (pre .0) (pre .1) (counted .before .distance .ensures)
+          (counted .before .before .toward .ensures _ refl) (counted .count-free .ensures),
+    )
 
 returns-2 : tie.Need-returns-2
 returns-2 c =
     let counted = c .before in
     let pre = counted .before .before .before .before .pre in
-    let none : counted .count-free .result ≡ 0 = omega arith in
-    (omega arith, leaves-column (pre .0) (pre .1) (counted .before .distance .ensures) (counted .before .before .toward .ensures _ refl) (pre .2) (rw none at (counted .count-free .ensures)))
+    let none : counted .count-free .result ≡ 0 = omega arith in (
+      omega arith,
+      leaves-column (pre .0) (pre .1) (counted .before .distance .ensures)
+          (counted .before .before .toward .ensures _ refl) (pre .2) (rw none at (counted .count-free .ensures)),
+    )
 
 pub column-leg-spec : {M : Type 1} → statement M
 column-leg-spec =

@@ -45,7 +45,8 @@ returns-2 c =
     let tested = c .before in
     let counted = tested .before .before .before in
     let pre = counted .before .before .before .pre in
-    unstopped-before (pre .0) (pre .1) (counted .before .distance .ensures) (pre .3) (counted .count-free .ensures) (omega arith) (rw (tested .before .moved-by .ensures) at (tested .is-stopped .ensures)) (c .if2 .taken)
+    unstopped-before (pre .0) (pre .1) (counted .before .distance .ensures) (pre .3) (counted .count-free .ensures)
+    (omega arith) (rw (tested .before .moved-by .ensures) at (tested .is-stopped .ensures)) (c .if2 .taken)
 
 returns-3 : tie.Need-returns-3
 unfolding movedBy
@@ -53,7 +54,8 @@ returns-3 c =
     let tested = c .before in
     let counted = tested .before .before .before in
     let pre = counted .before .before .before .pre in
-    unstopped-all (pre .0) (pre .1) (counted .before .distance .ensures) (pre .3) (counted .count-free .ensures) (omega arith) (rw (tested .before .moved-by .ensures) at (tested .is-stopped .ensures)) (c .if2 .left)
+    unstopped-all (pre .0) (pre .1) (counted .before .distance .ensures) (pre .3) (counted .count-free .ensures)
+    (omega arith) (rw (tested .before .moved-by .ensures) at (tested .is-stopped .ensures)) (c .if2 .left)
 
 pub count-unstopped-spec : {M : Type 1} → statement M
 count-unstopped-spec =

@@ -65,77 +65,106 @@ straight-Inv-loop columns rows marks out₀ begun limit p₀ made₀ left₀ out
 abbrev straight-μ-loop : straight-lts.MeasureT-loop
 straight-μ-loop columns rows marks out₀ begun limit p₀ made₀ left₀ out p made left = left
 
-round-block-loop-holds : (t : ℕ) → round-block-lts.Need-loop-holds (round-block-callees t) (round-block-at t) round-block.Post round-block-Inv-loop round-block-μ-loop
+round-block-loop-holds : (t : ℕ) →
+    round-block-lts.Need-loop-holds (round-block-callees t) (round-block-at t) round-block.Post round-block-Inv-loop round-block-μ-loop
 round-block-loop-holds t c = (along-none (c .before .before .pre .1 .0), c .before .before .pre .1 .1)
 
-round-block-go-round-requires : (t : ℕ) → round-block-lts.Need-go-round-requires (round-block-callees t) (round-block-at t) round-block.Post round-block-Inv-loop round-block-μ-loop
+round-block-go-round-requires : (t : ℕ) →
+    round-block-lts.Need-go-round-requires (round-block-callees t) (round-block-at t) round-block.Post round-block-Inv-loop round-block-μ-loop
 round-block-go-round-requires t c κs =
     (c .loop .inv .0 .going .on-mesh .here, or-none (inItsRow (c .loop .p)) (nearsRow (c .loop .p)) (c .loop .inv .1) .1)
 
-round-block-advance-requires : (t : ℕ) → round-block-lts.Need-advance-requires (round-block-callees t) (round-block-at t) round-block.Post round-block-Inv-loop round-block-μ-loop
+round-block-advance-requires : (t : ℕ) →
+    round-block-lts.Need-advance-requires (round-block-callees t) (round-block-at t) round-block.Post round-block-Inv-loop round-block-μ-loop
 round-block-advance-requires t c κs =
     let at-loop = c .before .before in
     let one = round-one (at-loop .loop .inv .1) (c .before .go-round .ensures) in
     along-lands (at-loop .loop .inv .0) one
 
-round-block-add-made : (t : ℕ) → round-block-lts.Need-add-made (round-block-callees t) (round-block-at t) round-block.Post round-block-Inv-loop round-block-μ-loop
+round-block-add-made : (t : ℕ) →
+    round-block-lts.Need-add-made (round-block-callees t) (round-block-at t) round-block.Post round-block-Inv-loop round-block-μ-loop
 round-block-add-made t c =
     let at-loop = c .before .before .before .before .before in
     let one = round-one (at-loop .loop .inv .1) (c .before .before .before .before .go-round .ensures) in
     omega (arith, along-few (at-loop .loop .inv .0) one)
 
-round-block-sub-left : (t : ℕ) → round-block-lts.Need-sub-left (round-block-callees t) (round-block-at t) round-block.Post round-block-Inv-loop round-block-μ-loop
+round-block-sub-left : (t : ℕ) →
+    round-block-lts.Need-sub-left (round-block-callees t) (round-block-at t) round-block.Post round-block-Inv-loop round-block-μ-loop
 round-block-sub-left t c =
     let at-loop = c .before .before .before .before .before in
     let one = round-one (at-loop .loop .inv .1) (c .before .before .before .before .go-round .ensures) in
     omega (arith, along-few (at-loop .loop .inv .0) one)
 
-round-block-is-straight-requires : (t : ℕ) → round-block-lts.Need-is-straight-requires (round-block-callees t) (round-block-at t) round-block.Post round-block-Inv-loop round-block-μ-loop
+round-block-is-straight-requires : (t : ℕ) →
+    round-block-lts.Need-is-straight-requires (round-block-callees t) (round-block-at t) round-block.Post round-block-Inv-loop round-block-μ-loop
 round-block-is-straight-requires t c κs = tt
 
-round-block-straight-requires : (t : ℕ) → round-block-lts.Need-straight-requires (round-block-callees t) (round-block-at t) round-block.Post round-block-Inv-loop round-block-μ-loop
+round-block-straight-requires : (t : ℕ) →
+    round-block-lts.Need-straight-requires (round-block-callees t) (round-block-at t) round-block.Post round-block-Inv-loop round-block-μ-loop
 round-block-straight-requires t c κs =
     let at-loop = c .before .before .before .before .before .before .before .before in
-    let one = round-one (at-loop .loop .inv .1) (c .before .before .before .before .before .before .before .go-round .ensures) in
-    (omega (arith, c .before .before .before .before .before .before .before .before .before .before .before .pre .0, at-loop .loop .inv .0 .fell, along-few (at-loop .loop .inv .0) one), along-leg (at-loop .loop .inv .0) one (omega arith) (c .before .before .before .before .before .advance .ensures) .going)
+    let one = round-one (at-loop .loop .inv .1) (c .before .before .before .before .before .before .before .go-round .ensures) in (
+      omega (arith, c .before .before .before .before .before .before .before .before .before .before .before .pre .0, at-loop .loop .inv .0 .fell, along-few (at-loop .loop .inv .0) one),
+      along-leg (at-loop .loop .inv .0) one (omega arith)
+          (c .before .before .before .before .before .advance .ensures) .going,
+    )
 
-round-block-same-length : (t : ℕ) → round-block-lts.Need-same-length (round-block-callees t) (round-block-at t) round-block.Post round-block-Inv-loop round-block-μ-loop
+round-block-same-length : (t : ℕ) →
+    round-block-lts.Need-same-length (round-block-callees t) (round-block-at t) round-block.Post round-block-Inv-loop round-block-μ-loop
 round-block-same-length t c =
     let at-loop = c .before .before .before .before .before .before .before .before .before .before .before in
-    let one = round-one (at-loop .loop .inv .1) (c .before .before .before .before .before .before .before .before .before .before .go-round .ensures) in
-    c .before .before .straight .kept .1 .1 .1 .1 .0 ∙ along-leg (at-loop .loop .inv .0) one (omega arith) (c .before .before .before .before .before .before .before .before .advance .ensures) .size
+    let one =
+    round-one (at-loop .loop .inv .1)
+    (c .before .before .before .before .before .before .before .before .before .before .go-round .ensures) in
+    c .before .before .straight .kept .1 .1 .1 .1 .0 ∙
+    along-leg (at-loop .loop .inv .0) one (omega arith)
+    (c .before .before .before .before .before .before .before .before .advance .ensures) .size
 
-round-block-returns : (t : ℕ) → round-block-lts.Need-returns (round-block-callees t) (round-block-at t) round-block.Post round-block-Inv-loop round-block-μ-loop
+round-block-returns : (t : ℕ) →
+    round-block-lts.Need-returns (round-block-callees t) (round-block-at t) round-block.Post round-block-Inv-loop round-block-μ-loop
 round-block-returns t c =
     let at-loop = c .before .before .before .before .before .before .before .before .before .before .before in
-    let one = round-one (at-loop .loop .inv .1) (c .before .before .before .before .before .before .before .before .before .before .go-round .ensures) in
-    along-leg (at-loop .loop .inv .0) one (omega arith) (c .before .before .before .before .before .before .before .before .advance .ensures) .onward (c .before .before .straight .ensures)
+    let one =
+    round-one (at-loop .loop .inv .1)
+    (c .before .before .before .before .before .before .before .before .before .before .go-round .ensures) in
+    along-leg (at-loop .loop .inv .0) one (omega arith)
+    (c .before .before .before .before .before .before .before .before .advance .ensures) .onward
+    (c .before .before .straight .ensures)
 
-round-block-loop-less : (t : ℕ) → round-block-lts.Need-loop-less (round-block-callees t) (round-block-at t) round-block.Post round-block-Inv-loop round-block-μ-loop
+round-block-loop-less : (t : ℕ) →
+    round-block-lts.Need-loop-less (round-block-callees t) (round-block-at t) round-block.Post round-block-Inv-loop round-block-μ-loop
 round-block-loop-less t c =
     let at-loop = c .before .before .before .before .before .before .before in
     let one = round-one (at-loop .loop .inv .1) (c .before .before .before .before .before .before .go-round .ensures) in
     omega (arith, along-few (at-loop .loop .inv .0) one)
 
-round-block-loop-again : (t : ℕ) → round-block-lts.Need-loop-again (round-block-callees t) (round-block-at t) round-block.Post round-block-Inv-loop round-block-μ-loop
+round-block-loop-again : (t : ℕ) →
+    round-block-lts.Need-loop-again (round-block-callees t) (round-block-at t) round-block.Post round-block-Inv-loop round-block-μ-loop
 round-block-loop-again t c =
     let at-loop = c .before .before .before .before .before .before .before in
-    let one = round-one (at-loop .loop .inv .1) (c .before .before .before .before .before .before .go-round .ensures) in
-    (along-leg (at-loop .loop .inv .0) one (omega arith) (c .before .before .before .before .advance .ensures), sym (c .before .is-straight .ensures) ∙ c .if1 .left)
+    let one = round-one (at-loop .loop .inv .1) (c .before .before .before .before .before .before .go-round .ensures) in (
+      along-leg (at-loop .loop .inv .0) one (omega arith) (c .before .before .before .before .advance .ensures),
+      sym (c .before .is-straight .ensures) ∙ c .if1 .left,
+    )
 
 straight-loop-holds : (t : ℕ) → straight-lts.Need-loop-holds (straight-callees t) (straight-at t) straight.Post straight-Inv-loop straight-μ-loop
 straight-loop-holds t c = along-none (c .before .before .pre .1)
 
-straight-is-there-requires : (t : ℕ) → straight-lts.Need-is-there-requires (straight-callees t) (straight-at t) straight.Post straight-Inv-loop straight-μ-loop
+straight-is-there-requires : (t : ℕ) →
+    straight-lts.Need-is-there-requires (straight-callees t) (straight-at t) straight.Post straight-Inv-loop straight-μ-loop
 straight-is-there-requires t c κs = tt
 
-straight-is-straight-requires : (t : ℕ) → straight-lts.Need-is-straight-requires (straight-callees t) (straight-at t) straight.Post straight-Inv-loop straight-μ-loop
+straight-is-straight-requires : (t : ℕ) →
+    straight-lts.Need-is-straight-requires (straight-callees t) (straight-at t) straight.Post straight-Inv-loop straight-μ-loop
 straight-is-straight-requires t c κs = tt
 
-straight-round-block-requires : (t : ℕ) → straight-lts.Need-round-block-requires (straight-callees t) (straight-at t) straight.Post straight-Inv-loop straight-μ-loop
+straight-round-block-requires : (t : ℕ) →
+    straight-lts.Need-round-block-requires (straight-callees t) (straight-at t) straight.Post straight-Inv-loop straight-μ-loop
 straight-round-block-requires t c κs =
-    let at-loop = c .before .before .before .before .before in
-    (omega (arith, c .before .before .before .before .before .before .before .before .pre .0, at-loop .loop .inv .fell), (at-loop .loop .inv .going, sym (c .before .before .is-straight .ensures) ∙ not-true _ (c .before .if2 .taken)))
+    let at-loop = c .before .before .before .before .before in (
+      omega (arith, c .before .before .before .before .before .before .before .before .pre .0, at-loop .loop .inv .fell),
+      (at-loop .loop .inv .going, sym (c .before .before .is-straight .ensures) ∙ not-true _ (c .before .if2 .taken)),
+    )
 
 straight-same-length : (t : ℕ) → straight-lts.Need-same-length (straight-callees t) (straight-at t) straight.Post straight-Inv-loop straight-μ-loop
 straight-same-length t c =
@@ -147,11 +176,18 @@ straight-returns t c =
     let at-loop = c .before .before .before .before .before .before .before .before in
     at-loop .loop .inv .onward (c .before .before .round-block .ensures)
 
-straight-next-leg-requires : (t : ℕ) → straight-lts.Need-next-leg-requires (straight-callees t) (straight-at t) straight.Post straight-Inv-loop straight-μ-loop
+straight-next-leg-requires : (t : ℕ) →
+    straight-lts.Need-next-leg-requires (straight-callees t) (straight-at t) straight.Post straight-Inv-loop straight-μ-loop
 straight-next-leg-requires t c κs =
-    (c .before .before .before .before .loop .inv .going .on-mesh, sym (c .before .is-straight .ensures) ∙ not-false _ (c .if2 .left), sym (c .before .before .before .is-there .ensures) ∙ not-true _ (c .before .before .if1 .taken))
+    let at-if1 = c .before .before in
+    let at-loop = at-if1 .before .before in (
+      at-loop .loop .inv .going .on-mesh,
+      sym (c .before .is-straight .ensures) ∙ not-false _ (c .if2 .left),
+      sym (at-if1 .before .is-there .ensures) ∙ not-true _ (at-if1 .if1 .taken),
+    )
 
-straight-advance-requires : (t : ℕ) → straight-lts.Need-advance-requires (straight-callees t) (straight-at t) straight.Post straight-Inv-loop straight-μ-loop
+straight-advance-requires : (t : ℕ) →
+    straight-lts.Need-advance-requires (straight-callees t) (straight-at t) straight.Post straight-Inv-loop straight-μ-loop
 straight-advance-requires t c κs =
     let at-loop = c .before .before .before .before .before .before in
     let leg = c .before .next-leg .ensures in
@@ -181,11 +217,14 @@ straight-loop-again t c =
     let leg = c .before .before .before .before .next-leg .ensures in
     along-leg (at-loop .loop .inv) (leg .1) (leg .0) (c .before .before .advance .ensures)
 
-straight-same-length-2 : (t : ℕ) → straight-lts.Need-same-length-2 (straight-callees t) (straight-at t) straight.Post straight-Inv-loop straight-μ-loop
+straight-same-length-2 : (t : ℕ) →
+    straight-lts.Need-same-length-2 (straight-callees t) (straight-at t) straight.Post straight-Inv-loop straight-μ-loop
 straight-same-length-2 t c = c .before .before .loop .inv .size
 
 straight-returns-2 : (t : ℕ) → straight-lts.Need-returns-2 (straight-callees t) (straight-at t) straight.Post straight-Inv-loop straight-μ-loop
-straight-returns-2 t c = c .before .before .loop .inv .onward (follows-there _ _ _ _ _ (sym (c .before .is-there .ensures) ∙ not-false _ (c .if1 .left)))
+straight-returns-2 t c =
+    c .before .before .loop .inv .onward
+    (follows-there _ _ _ _ _ (sym (c .before .is-there .ensures) ∙ not-false _ (c .if1 .left)))
 
 pub +round-block+straight-spec : {M : Type 1} → statement M
 +round-block+straight-spec = close μ-round-block μ-straight (λ t. round-block-lts.spec (round-block-callees t)
