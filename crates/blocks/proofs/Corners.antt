@@ -1,8 +1,8 @@
 -- Counting the corners of blocks. Assumes nothing.
-use mathlib.Core.Path.{_≡_, sym, ap, _∙_}
+use mathlib.Core.Path.{_≡_, refl, sym, ap, _∙_}
 use mathlib.Core.Bool.{Bool, true, false, not}
 use mathlib.Core.List.{List}
-use Prim.Native.Nat.{ℕ, suc, _+_, _-_, _*_, _/_, _%_, _<_}
+use Prim.Native.Nat.{ℕ, suc, _+_, _-_, _*_, _/_, _%_, _≤_, _<_}
 use native.Mathlib.Numerals.{add-one}
 use native.Mathlib.Omega.{arith}
 use borrow.Author.Tests.{eq-eqb, ne-eqb}
@@ -55,23 +55,56 @@ cornersFrom w i =
     (w .columns * w .rows - i) i)
 
 module _ (w : Mesh) where
-  pub corners-all : cornersFrom w 0 ≡ length (blocks w)
+  corners-all : cornersFrom w 0 ≡ length (blocks w)
   unfolding cornersFrom blocks
   corners-all = let e : w .columns * w .rows - 0 ≡ w .columns * w .rows = omega arith in rw e
 
-  pub corners-end : (i : ℕ) → i ≡ w .columns * w .rows → cornersFrom w i ≡ 0
+  corners-end : (i : ℕ) → i ≡ w .columns * w .rows → cornersFrom w i ≡ 0
   unfolding cornersFrom select
   corners-end i h = let e : w .columns * w .rows - i ≡ 0 = omega arith in rw e
 
   module _ (i : ℕ) (h : i < w .columns * w .rows) {x : Bool} (is-x : x ≡ corner (bad w) (i / w .columns) (i % w .columns)) where
-    pub corners-yes : x ≡ true → cornersFrom w i ≡ 1 + cornersFrom w (i + 1)
+    corners-yes : x ≡ true → cornersFrom w i ≡ 1 + cornersFrom w (i + 1)
     unfolding cornersFrom select
     corners-yes e =
         let q : w .columns * w .rows - i ≡ suc (w .columns * w .rows - (i + 1)) = omega arith in
         rw (q, ← is-x, e, add-one) (omega arith)
 
-    pub corners-no : x ≡ false → cornersFrom w i ≡ cornersFrom w (i + 1)
+    corners-no : x ≡ false → cornersFrom w i ≡ cornersFrom w (i + 1)
     unfolding cornersFrom select
     corners-no e =
         let q : w .columns * w .rows - i ≡ suc (w .columns * w .rows - (i + 1)) = omega arith in
         rw (q, ← is-x, e, add-one)
+
+-- k corners lie before index i of n
+pub record Counted (w : Mesh) (n k i : ℕ) : Type 0 where
+  pub within : i ≤ n
+  pub all : n ≡ w .columns * w .rows
+  pub few : k ≤ i
+  pub rest : k + cornersFrom w i ≡ length (blocks w)
+
+pub counted-none : (w : Mesh) → Counted w (w .columns * w .rows) 0 0
+counted-none w = record { within = omega arith; all = refl; few = omega arith; rest = omega (arith, corners-all w) }
+
+module _ {w : Mesh} {n k i : ℕ} (t : Counted w n k i) where
+  module _ (h : i < n) {x : Bool} (is-x : x ≡ corner (bad w) (i / w .columns) (i % w .columns)) where
+    pub counted-corner : x ≡ true → Counted w n (k + 1) (i + 1)
+    counted-corner e =
+        record {
+          within = omega arith;
+          all = t .all;
+          few = omega (arith, t .few);
+          rest = omega (arith, t .rest, corners-yes w i (omega (arith, t .all)) is-x e);
+        }
+
+    pub counted-other : x ≡ false → Counted w n k (i + 1)
+    counted-other e =
+        record {
+          within = omega arith;
+          all = t .all;
+          few = omega (arith, t .few);
+          rest = omega (arith, t .rest, corners-no w i (omega (arith, t .all)) is-x e);
+        }
+
+  pub counted-all : n ≤ i → k ≡ length (blocks w)
+  counted-all h = omega (arith, t .rest, corners-end w i (omega (arith, t .within, t .all)))

@@ -13,30 +13,35 @@ pub puts-byte : (out : List ℕ) (at byte : ℕ) → at < length out → Puts ou
 unfolding over
 puts-byte out at byte h = record { next = refl; stands = refl; fits = omega arith }
 
--- the bytes before index i are copied: with the others the buffer is as it will be
-pub record Putting (out : List ℕ) (at : ℕ) (from : List ℕ) (i : ℕ) (now : List ℕ) : Type 0 where
+-- of n bytes those before index i are copied: with the others the buffer is as it will be
+pub record Putting (out : List ℕ) (at : ℕ) (from : List ℕ) (n i : ℕ) (now : List ℕ) : Type 0 where
+  pub within : i ≤ n
+  pub all : n ≡ length from
   pub size : length now ≡ length out
   pub leads : over now (at + i) (drop i from) ≡ over out at from
 
 module _ {out : List ℕ} {at : ℕ} {from : List ℕ} where
-  pub putting-none : Putting out at from 0 out
-  putting-none = record { size = refl; leads = rw add-zero }
+  pub putting-none : Putting out at from (length from) 0 out
+  putting-none = record { within = omega arith; all = refl; size = refl; leads = rw add-zero }
 
-  module _ {i : ℕ} {now : List ℕ} (p : Putting out at from i now) where
-    pub putting-more : {y : ℕ} → i < length from → y ≡ getD from i 0 → Putting out at from (i + 1) (set now (at + i) y)
+  module _ {n i : ℕ} {now : List ℕ} (p : Putting out at from n i now) where
+    pub putting-more : {y : ℕ} → i < n → y ≡ getD from i 0 → Putting out at from n (i + 1) (set now (at + i) y)
     unfolding over
     putting-more {y} h e =
         let next : at + i + 1 ≡ at + (i + 1) = omega arith in
+        let inside : i < length from = omega (arith, p .all) in
         record {
+          within = omega arith;
+          all = p .all;
           size = length-set now (at + i) y ∙ p .size;
-          leads = rw (← next, add-one i, e) (rw (drop-cons from i 0 h) at (p .leads));
+          leads = rw (← next, add-one i, e) (rw (drop-cons from i 0 inside) at (p .leads));
         }
 
-    pub putting-all : i ≡ length from → at + length from ≤ length out → Puts out at from (at + length from) now
+    pub putting-all : n ≤ i → at + length from ≤ length out → Puts out at from (at + n) now
     unfolding over
     putting-all e h =
         record {
-          next = refl;
-          stands = sym (sym (p .leads) ∙ rw (drop-of-length-le from {i = i} (omega arith)));
-          fits = h;
+          next = omega (arith, p .all);
+          stands = sym (sym (p .leads) ∙ rw (drop-of-length-le from {i = i} (omega (arith, p .all))));
+          fits = omega (arith, p .all);
         }

@@ -97,20 +97,34 @@ reaches-on N f i le = (omega (arith, f .north refl), f .column)
 reaches-on S f i le = (omega (arith, f .row), f .column)
 reaches-on W f i le = (f .row, omega (arith, f .column))
 
--- k nodes that way are free
-pub record Clear (B : ℕ → ℕ → Bool) (h : Heading) (r c k : ℕ) : Type 0 where
+-- the next k of n nodes that way are free
+pub record Clear (B : ℕ → ℕ → Bool) (h : Heading) (n r c k : ℕ) : Type 0 where
+  pub within : k ≤ n
   pub free : (i : ℕ) → 1 ≤ i → i ≤ k → B (rowBy h i r) (columnBy h i c) ≡ false
 
-module _ {B : ℕ → ℕ → Bool} {h : Heading} {r c : ℕ} where
-  pub clear-none : Clear B h r c 0
-  clear-none = record { free = λ i one le. absurd (omega arith) }
+pub clear-none : {B : ℕ → ℕ → Bool} {h : Heading} {n r c : ℕ} → Clear B h n r c 0
+clear-none = record { within = omega arith; free = λ i one le. absurd (omega arith) }
 
-  pub clear-more : {k : ℕ} → Clear B h r c k → B (rowBy h (k + 1) r) (columnBy h (k + 1) c) ≡ false → Clear B h r c (k + 1)
-  clear-more {k} f e = record { free = λ i one le. elim (decLt i (k + 1)) [ yes less ↦ f .free i one (omega arith) | no more ↦ (let last : i ≡ k + 1 = omega arith in rw last e) ] }
+module _ {B : ℕ → ℕ → Bool} {h : Heading} {n r c k : ℕ} (f : Clear B h n r c k) where
+  module _ (less : k < n) {x : Bool} (is-x : x ≡ B (rowBy h (k + 1) r) (columnBy h (k + 1) c)) where
+    pub clear-more : x ≡ false → Clear B h n r c (k + 1)
+    clear-more e =
+        record {
+          within = omega arith;
+          free =
+              λ i one le.
+              elim (decLt i (k + 1)) [
+                | yes before ↦ f .free i one (omega arith)
+                | no after ↦ let last : i ≡ k + 1 = omega arith in rw last (sym is-x ∙ e)
+              ];
+        }
 
-  -- the count ends
-  pub clear-bad : {n k : ℕ} {x : Bool} → Clear B h r c k → k < n → x ≡ B (rowBy h (k + 1) r) (columnBy h (k + 1) c) → x ≡ true → Free B h n r c k
-  clear-bad f less e t = record { most = omega arith; free = f .free; ends = λ less′. sym e ∙ t }
+    -- the count ends
+    pub clear-bad : x ≡ true → Free B h n r c k
+    clear-bad e = record { most = omega arith; free = f .free; ends = λ l. sym is-x ∙ e }
 
-  pub clear-all : {n k : ℕ} → Clear B h r c k → k ≡ n → Free B h n r c n
-  clear-all f e = let f′ = rw e at f in record { most = omega arith; free = f′ .free; ends = λ less. absurd (omega arith) }
+  pub clear-all : n ≤ k → Free B h n r c n
+  clear-all h =
+      let e : k ≡ n = omega (arith, f .within) in
+      let all = rw e at f in
+      record { most = omega arith; free = all .free; ends = λ less. absurd (omega arith) }

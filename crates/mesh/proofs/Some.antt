@@ -1,5 +1,5 @@
 -- Laws of `some`, for a list that is looked through from the front. Assumes nothing.
-use mathlib.Core.Path.{_≡_, refl}
+use mathlib.Core.Path.{_≡_, refl, sym, _∙_}
 use mathlib.Core.Bool.{Bool, true, false}
 use mathlib.Core.List.{List, [], _∷_}
 use Prim.Native.Nat.{ℕ, zero, suc, _+_, _≤_, _<_}
@@ -23,19 +23,42 @@ unfoldable pub someFrom : (ℕ → ℕ → Bool) → List ℕ → ℕ → Bool
 someFrom t xs i = some t i (drop i xs)
 
 module _ (t : ℕ → ℕ → Bool) (xs : List ℕ) where
-  pub some-all : some t 0 xs ≡ someFrom t xs 0
+  some-all : some t 0 xs ≡ someFrom t xs 0
   unfolding someFrom
   some-all = refl
 
   module _ {i : ℕ} where
-    pub some-end : length xs ≤ i → someFrom t xs i ≡ false
+    some-end : length xs ≤ i → someFrom t xs i ≡ false
     unfolding someFrom some
     some-end h = rw (drop-of-length-le xs {i = i} h)
 
-    pub some-here : i < length xs → t i (getD xs i 0) ≡ true → someFrom t xs i ≡ true
+    some-here : i < length xs → t i (getD xs i 0) ≡ true → someFrom t xs i ≡ true
     unfolding someFrom some
     some-here h e = rw (drop-cons xs i 0 h, e)
 
-    pub some-later : i < length xs → t i (getD xs i 0) ≡ false → someFrom t xs i ≡ someFrom t xs (i + 1)
+    some-later : i < length xs → t i (getD xs i 0) ≡ false → someFrom t xs i ≡ someFrom t xs (i + 1)
     unfolding someFrom some
     some-later h e = rw (drop-cons xs i 0 h, e, add-one)
+
+-- n numbers are looked through for one that passes: none before index i does, so that the rest decides
+pub record LookedThrough (t : ℕ → ℕ → Bool) (xs : List ℕ) (n i : ℕ) : Type 0 where
+  pub within : i ≤ n
+  pub all : n ≡ length xs
+  pub rest : some t 0 xs ≡ someFrom t xs i
+
+pub looked-none : (t : ℕ → ℕ → Bool) {xs : List ℕ} {n : ℕ} → n ≡ length xs → LookedThrough t xs n 0
+looked-none t {xs} e = record { within = omega arith; all = e; rest = some-all t xs }
+
+module _ {t : ℕ → ℕ → Bool} {xs : List ℕ} {n i : ℕ} (l : LookedThrough t xs n i) where
+  module _ (h : i < n) where
+    inside : i < length xs
+    inside = omega (arith, l .all)
+
+    pub looked-here : t i (getD xs i 0) ≡ true → true ≡ some t 0 xs
+    looked-here e = sym (l .rest ∙ some-here t xs inside e)
+
+    pub looked-more : t i (getD xs i 0) ≡ false → LookedThrough t xs n (i + 1)
+    looked-more e = record { within = omega arith; all = l .all; rest = l .rest ∙ some-later t xs inside e }
+
+  pub looked-all : n ≤ i → false ≡ some t 0 xs
+  looked-all h = sym (l .rest ∙ some-end t xs (omega (arith, l .all)))

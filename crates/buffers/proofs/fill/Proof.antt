@@ -9,7 +9,7 @@ use Rattle.buffers.proofs.fill.Statement.{statement}
 use Rattle.buffers.proofs.fill.Tie as tie
 
 abbrev Inv-loop : tie.InvT-loop
-Inv-loop out₀ at n byte k i₀ out i = (i ≤ k) × (k ≡ min n (length out₀ - at)) × (at < length out₀) × Filling out₀ at byte i out
+Inv-loop out₀ at n byte k i₀ out i = Filling out₀ at byte n k i out
 
 abbrev μ-loop : tie.MeasureT-loop
 μ-loop out₀ at n byte k i₀ out i = k - i
@@ -24,13 +24,13 @@ least-requires : tie.Need-least-requires Inv-loop μ-loop
 least-requires c κs = search needs
 
 loop-holds : tie.Need-loop-holds Inv-loop μ-loop
-loop-holds c = (omega arith, c .least .ensures, omega arith, filling-none)
+loop-holds c = filling-none (c .least .ensures) (omega arith)
 
 add-out : tie.Need-add-out Inv-loop μ-loop
 add-out c = omega arith
 
 slice-write-out : tie.Need-slice-write-out Inv-loop μ-loop
-slice-write-out c = omega (arith, filling-length (c .before .loop .inv .3))
+slice-write-out c = omega (arith, filling-length (c .before .loop .inv))
 
 add-i : tie.Need-add-i Inv-loop μ-loop
 add-i c = omega arith
@@ -39,13 +39,13 @@ loop-less : tie.Need-loop-less Inv-loop μ-loop
 loop-less c = omega arith
 
 loop-again : tie.Need-loop-again Inv-loop μ-loop
-loop-again c = (omega arith, c .before .loop .inv .1, c .before .loop .inv .2, filling-more (c .before .loop .inv .3))
+loop-again c = filling-more (c .before .loop .inv) (omega arith)
 
 same-length : tie.Need-same-length Inv-loop μ-loop
-same-length c = filling-length (c .before .loop .inv .3)
+same-length c = filling-length (c .before .loop .inv)
 
 returns-2 : tie.Need-returns-2 Inv-loop μ-loop
-returns-2 c = filling-all (c .before .loop .inv .3) _ (c .before .loop .inv .1) (omega arith) (c .before .loop .inv .2)
+returns-2 c = filling-all (c .before .loop .inv) (omega arith)
 
 pub fill-spec : {M : Type 1} → statement M
 fill-spec =

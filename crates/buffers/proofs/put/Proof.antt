@@ -1,4 +1,4 @@
--- The bytes before i are copied. Assumes nothing.
+-- The bytes before index i are copied, and with the others the buffer is as it will be. Assumes nothing.
 use mathlib.Core.Path.{_≡_, refl}
 use Prim.Native.Nat.{_≤_, _-_}
 use native.Mathlib.Omega.{arith}
@@ -8,13 +8,13 @@ use Rattle.buffers.proofs.put.Statement.{statement}
 use Rattle.buffers.proofs.put.Tie as tie
 
 abbrev Inv-loop : tie.InvT-loop
-Inv-loop out₀ at from n i₀ out i = (i ≤ n) × (n ≡ length from) × Putting out₀ at from i out
+Inv-loop out₀ at from n i₀ out i = Putting out₀ at from n i out
 
 abbrev μ-loop : tie.MeasureT-loop
 μ-loop out₀ at from n i₀ out i = n - i
 
 loop-holds : tie.Need-loop-holds Inv-loop μ-loop
-loop-holds c = (omega arith, refl, putting-none)
+loop-holds c = putting-none
 
 shared-slice-read-out : tie.Need-shared-slice-read-out Inv-loop μ-loop
 shared-slice-read-out c = omega arith
@@ -32,7 +32,7 @@ loop-less : tie.Need-loop-less Inv-loop μ-loop
 loop-less c = omega arith
 
 loop-again : tie.Need-loop-again Inv-loop μ-loop
-loop-again c = (omega arith, refl, putting-more (c .before .before .loop .inv .2) (omega arith) refl)
+loop-again c = putting-more (c .before .before .loop .inv) (omega arith) refl
 
 add-result : tie.Need-add-result Inv-loop μ-loop
 add-result c = omega arith
@@ -41,7 +41,7 @@ same-length : tie.Need-same-length Inv-loop μ-loop
 same-length c = omega arith
 
 returns : tie.Need-returns Inv-loop μ-loop
-returns c = putting-all (c .before .loop .inv .2) (omega arith) (omega arith)
+returns c = putting-all (c .before .loop .inv) (omega arith) (omega arith)
 
 pub put-spec : {M : Type 1} → statement M
 put-spec =

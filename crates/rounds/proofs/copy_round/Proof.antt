@@ -1,22 +1,37 @@
 -- The rows before this one are copied. Assumes nothing.
 use mathlib.Core.Path.{_≡_, refl, _∙_}
 use mathlib.Core.Logic.{⊎-elim}
-use Prim.Native.Nat.{_≤_, _-_}
+use mathlib.Core.List.{List}
+use mathlib.Core.Bool.{Bool}
+use Prim.Native.Nat.{_≤_, _-_, ℕ}
 use native.Mathlib.Omega.{arith}
 use lib.ListN.{length, length-set}
-use Rattle.mesh.specs.Mesh.{mesh}
+use Rattle.mesh.specs.Mesh.{mesh, Mesh}
 use Rattle.rounds.proofs.Copying.{Copying, row-done, copying-none, copying-changed, copying-same, copying-all}
 use Rattle.rounds.proofs.copy_round.Statement.{statement}
 use Rattle.rounds.proofs.copy_round.Tie as tie
 
+-- the due rows before this one are copied
+record Done (w : Mesh) (row : ℕ) (changed₀ : List ℕ) (any : Bool) (changed out : List ℕ) : Type 0 where
+  pub within : row ≤ w .rows
+  pub told : length changed ≡ length changed₀
+  pub size : length out ≡ length (w .map)
+  pub copying : Copying w row any changed out
+
 abbrev Inv-loop : tie.InvT-loop
-Inv-loop columns rows next due changed₀ out₀ any₀ row₀ changed out any row = (row ≤ rows) × (length changed ≡ length changed₀) × (length out ≡ length out₀) × Copying (mesh columns rows out₀) row any changed out
+Inv-loop columns rows next due changed₀ out₀ any₀ row₀ changed out any row = Done (mesh columns rows out₀) row changed₀ any changed out
 
 abbrev μ-loop : tie.MeasureT-loop
 μ-loop columns rows next due changed₀ out₀ any₀ row₀ changed out any row = rows - row
 
 loop-holds : tie.Need-loop-holds Inv-loop μ-loop
-loop-holds c = (omega arith, refl, refl, copying-none _ _ (c .before .before .before .before .pre .0 .size))
+loop-holds c =
+    record {
+      within = omega arith;
+      told = refl;
+      size = refl;
+      copying = copying-none _ _ (c .before .before .before .before .pre .0 .size);
+    }
 
 copy-row-requires : tie.Need-copy-row-requires Inv-loop μ-loop
 copy-row-requires c κs =
@@ -25,7 +40,7 @@ copy-row-requires c κs =
       record {
         few-columns = asked .0 .few-columns;
         few-rows = asked .0 .few-rows;
-        size = at-loop .loop .inv .3 .size;
+        size = at-loop .loop .inv .copying .size;
       },
       c .before .loop-test .taken,
       asked .2,
@@ -61,19 +76,22 @@ loop-again c =
     let at-copy-row = c .before .before .before in
     let at-loop-test = at-copy-row .before .before in
     let at-loop = at-loop-test .before in
-    let asked = at-loop .before .before .before .before .before .pre in (
-      omega arith,
-      ⊎-elim (λ w. rw (w .1, length-set) (at-loop .loop .inv .1)) (λ w. rw (w .1, length-set) (at-loop .loop .inv .1))
-          (c .if1 .came),
-      at-copy-row .copy-row .kept .1 .1 .1 .1 .0 ∙ at-loop .loop .inv .2,
-      let done =
-          row-done (at-loop .loop .inv .3) (at-loop-test .loop-test .taken) (asked .4) (asked .5)
-          (at-copy-row .copy-row .ensures) in
+    let asked = at-loop .before .before .before .before .before .pre in
+    record {
+      within = omega arith;
+      told =
+          ⊎-elim (λ w. rw (w .1, length-set) (at-loop .loop .inv .told))
+          (λ w. rw (w .1, length-set) (at-loop .loop .inv .told)) (c .if1 .came);
+      size = at-copy-row .copy-row .kept .1 .1 .1 .1 .0 ∙ at-loop .loop .inv .size;
+      copying =
+          let done =
+              row-done (at-loop .loop .inv .copying) (at-loop-test .loop-test .taken) (asked .4) (asked .5)
+              (at-copy-row .copy-row .ensures) in
           ⊎-elim
-          (λ w. rw (w .1) (copying-changed (at-loop .loop .inv .3) (at-loop-test .loop-test .taken) done (omega arith) (w .0 .taken) (w .2)))
-          (λ w. rw (w .1) (copying-same (at-loop .loop .inv .3) (at-loop-test .loop-test .taken) done (omega arith) (w .0 .left) (w .2)))
-          (c .if1 .came),
-    )
+          (λ w. rw (w .1) (copying-changed (at-loop .loop .inv .copying) (at-loop-test .loop-test .taken) done (omega arith) (w .0 .taken) (w .2)))
+          (λ w. rw (w .1) (copying-same (at-loop .loop .inv .copying) (at-loop-test .loop-test .taken) done (omega arith) (w .0 .left) (w .2)))
+          (c .if1 .came);
+    }
 
 same-length : tie.Need-same-length Inv-loop μ-loop
 same-length c = omega arith
@@ -84,7 +102,7 @@ same-length-2 c = omega arith
 returns : tie.Need-returns Inv-loop μ-loop
 returns c =
     let asked = c .before .before .before .before .before .before .pre in
-    copying-all (asked .0 .size) (omega arith) (c .before .loop .inv .3)
+    copying-all (asked .0 .size) (omega arith) (c .before .loop .inv .copying)
 
 pub copy-round-spec : {M : Type 1} → statement M
 copy-round-spec =

@@ -1,6 +1,8 @@
 -- Each round leaves the marking to come as it is. Assumes nothing.
 use mathlib.Core.Path.{_≡_, refl, sym, _∙_}
-use Prim.Native.Nat.{_+_}
+use mathlib.Core.List.{List}
+use mathlib.Core.Bool.{Bool}
+use Prim.Native.Nat.{_+_, ℕ}
 use native.Mathlib.Omega.{arith}
 use lib.ListN.{length}
 use Rattle.mesh.proofs.Index.{few-nodes}
@@ -9,14 +11,27 @@ use Rattle.rounds.proofs.Rounds.{Settling, bit, settling-start, settlin
 use Rattle.rounds.proofs.settle.Statement.{statement}
 use Rattle.rounds.proofs.settle.Tie as tie
 
+-- some rounds are made; the buffers have their sizes
+record Done (columns rows : ℕ) (out₀ : List ℕ) (any : Bool) (out next changed : List ℕ) : Type 0 where
+  pub size : length out ≡ length out₀
+  pub room : length next ≡ 4096
+  pub told : length changed ≡ 64
+  pub settling : Settling columns rows out₀ any changed out
+
 abbrev Inv-loop : tie.InvT-loop
-Inv-loop columns rows out₀ next₀ changed₀ any₀ out next changed any = (length out ≡ length out₀) × (length next ≡ 4096) × (length changed ≡ 64) × Settling columns rows out₀ any changed out
+Inv-loop columns rows out₀ next₀ changed₀ any₀ out next changed any = Done columns rows out₀ any out next changed
 
 abbrev μ-loop : tie.MeasureT-loop
 μ-loop columns rows out₀ next₀ changed₀ any₀ out next changed any = safe out + bit any
 
 loop-holds : tie.Need-loop-holds Inv-loop μ-loop
-loop-holds c = (refl, refl, refl, settling-start _ _ 64 _ (c .before .pre) (omega (arith, c .before .pre .few-rows)))
+loop-holds c =
+    record {
+      size = refl;
+      room = refl;
+      told = refl;
+      settling = settling-start _ _ 64 _ (c .before .pre) (omega (arith, c .before .pre .few-rows));
+    }
 
 slice-aggregate-round-in-place : tie.Need-slice-aggregate-round-in-place Inv-loop μ-loop
 slice-aggregate-round-in-place c = omega arith
@@ -28,34 +43,35 @@ round-in-place-requires : tie.Need-round-in-place-requires Inv-loop μ-loop
 round-in-place-requires c κs =
     let at-loop = c .before .before .before .before in
     let asked = at-loop .before .before .pre in (
-      at-loop .loop .inv .3 .sized,
-      omega (arith, few-nodes _ _ (asked .few-columns) (asked .few-rows), at-loop .loop .inv .3 .sized .size),
+      at-loop .loop .inv .settling .sized,
+      omega (arith, few-nodes _ _ (asked .few-columns) (asked .few-rows), at-loop .loop .inv .settling .sized .size),
       omega (arith, asked .few-rows),
-      at-loop .loop .inv .3 .quiet,
+      at-loop .loop .inv .settling .quiet,
     )
 
 loop-less : tie.Need-loop-less Inv-loop μ-loop
 loop-less c =
     let at-round-in-place = c .before .before .before .before in
     let at-loop-test = at-round-in-place .before .before .before .before in
-    settling-less (at-loop-test .before .loop .inv .3) (at-round-in-place .round-in-place .ensures)
+    settling-less (at-loop-test .before .loop .inv .settling) (at-round-in-place .round-in-place .ensures)
     (at-loop-test .loop-test .taken)
 
 loop-again : tie.Need-loop-again Inv-loop μ-loop
 loop-again c =
     let at-round-in-place = c .before .before .before .before in
-    let at-loop = at-round-in-place .before .before .before .before .before in (
-      at-round-in-place .round-in-place .kept .1 .1 .0 ∙ at-loop .loop .inv .0,
-      at-round-in-place .round-in-place .kept .1 .1 .1 .0 ∙ at-loop .loop .inv .1,
-      at-round-in-place .round-in-place .kept .1 .1 .1 .1 .0 ∙ at-loop .loop .inv .2,
-      settling-more (at-loop .loop .inv .3) (at-round-in-place .round-in-place .ensures),
-    )
+    let at-loop = at-round-in-place .before .before .before .before .before in
+    record {
+      size = at-round-in-place .round-in-place .kept .1 .1 .0 ∙ at-loop .loop .inv .size;
+      room = at-round-in-place .round-in-place .kept .1 .1 .1 .0 ∙ at-loop .loop .inv .room;
+      told = at-round-in-place .round-in-place .kept .1 .1 .1 .1 .0 ∙ at-loop .loop .inv .told;
+      settling = settling-more (at-loop .loop .inv .settling) (at-round-in-place .round-in-place .ensures);
+    }
 
 same-length : tie.Need-same-length Inv-loop μ-loop
 same-length c = omega arith
 
 returns : tie.Need-returns Inv-loop μ-loop
-returns c = sym (sym (c .before .loop .inv .3 .same) ∙ c .before .loop .inv .3 .rests (c .loop-test .left))
+returns c = sym (sym (c .before .loop .inv .settling .same) ∙ c .before .loop .inv .settling .rests (c .loop-test .left))
 
 pub settle-spec : {M : Type 1} → statement M
 settle-spec =

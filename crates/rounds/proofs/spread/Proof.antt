@@ -1,6 +1,7 @@
 -- The rows before this one are told. Assumes nothing.
 use mathlib.Core.Path.{_≡_, refl}
-use Prim.Native.Nat.{_≤_, _-_}
+use mathlib.Core.List.{List}
+use Prim.Native.Nat.{_≤_, _-_, ℕ}
 use native.Mathlib.Omega.{arith}
 use lib.ListN.{length, length-set}
 use Rattle.rounds.specs.Rounds.{Spread}
@@ -8,14 +9,20 @@ use Rattle.rounds.proofs.Rows.{spread-none, spread-more}
 use Rattle.rounds.proofs.spread.Statement.{statement}
 use Rattle.rounds.proofs.spread.Tie as tie
 
+-- of the rows before this one it is known whether they are due
+record Done (rows : ℕ) (changed : List ℕ) (row : ℕ) (due₀ due : List ℕ) : Type 0 where
+  pub within : row ≤ rows
+  pub size : length due ≡ length due₀
+  pub spread : Spread rows changed row due
+
 abbrev Inv-loop : tie.InvT-loop
-Inv-loop rows changed due₀ row₀ due row = (row ≤ rows) × (length due ≡ length due₀) × Spread rows changed row due
+Inv-loop rows changed due₀ row₀ due row = Done rows changed row due₀ due
 
 abbrev μ-loop : tie.MeasureT-loop
 μ-loop rows changed due₀ row₀ due row = rows - row
 
 loop-holds : tie.Need-loop-holds Inv-loop μ-loop
-loop-holds c = (omega arith, refl, spread-none _ _ _)
+loop-holds c = record { within = omega arith; size = refl; spread = spread-none _ _ _ }
 
 near-requires : tie.Need-near-requires Inv-loop μ-loop
 near-requires c κs =
@@ -35,7 +42,12 @@ loop-less : tie.Need-loop-less Inv-loop μ-loop
 loop-less c = omega arith
 
 loop-again : tie.Need-loop-again Inv-loop μ-loop
-loop-again c = (omega arith, simp length-set (omega arith), spread-more _ _ _ _ _ (c .before .before .loop .inv .2) (omega arith) (c .near .ensures))
+loop-again c =
+    record {
+      within = omega arith;
+      size = simp length-set (omega arith);
+      spread = spread-more _ _ _ _ _ (c .before .before .loop .inv .spread) (omega arith) (c .near .ensures);
+    }
 
 same-length : tie.Need-same-length Inv-loop μ-loop
 same-length c = omega arith
@@ -43,7 +55,7 @@ same-length c = omega arith
 returns : tie.Need-returns Inv-loop μ-loop
 returns c =
     let e : c .before .loop .row ≡ c .before .before .before .before .args .rows = omega arith in
-    rw e at (c .before .loop .inv .2)
+    rw e at (c .before .loop .inv .spread)
 
 pub spread-spec : {M : Type 1} → statement M
 spread-spec =
