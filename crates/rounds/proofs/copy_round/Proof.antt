@@ -85,8 +85,8 @@ loop-again c =
       size = at-copy-row .copy-row .kept .1 .1 .1 .1 .0 ∙ at-loop .loop .inv .size;
       copying =
           let done =
-              row-done (at-loop .loop .inv .copying) (at-loop-test .loop-test .taken) (asked .4) (asked .5)
-              (at-copy-row .copy-row .ensures) in
+          row-done (at-loop .loop .inv .copying) (at-loop-test .loop-test .taken) (asked .4) (asked .5)
+          (at-copy-row .copy-row .ensures) in
           ⊎-elim
           (λ w. rw (w .1) (copying-changed (at-loop .loop .inv .copying) (at-loop-test .loop-test .taken) done (omega arith) (w .0 .taken) (w .2)))
           (λ w. rw (w .1) (copying-same (at-loop .loop .inv .copying) (at-loop-test .loop-test .taken) done (omega arith) (w .0 .left) (w .2)))

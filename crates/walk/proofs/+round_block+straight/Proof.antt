@@ -2,12 +2,14 @@
 -- may hand over at once. Assumes nothing.
 use mathlib.Core.Path.{_≡_, sym, _∙_}
 use mathlib.Core.Bool.{false}
+use mathlib.Core.List.{List}
 use Prim.Native.Nat.{ℕ, _<_, _+_, _*_}
 use native.Mathlib.Omega.{arith}
 use borrow.Author.Tests.{not-true, not-false}
 use borrow.Fn.Kinds.{In}
 use borrow.Fn.PlainCycle.{Measures, is, falls, and}
 use Rattle.mesh.proofs.Bools.{or-none}
+use Rattle.mesh.specs.declared.Packet.{Packet}
 use Rattle.hops.proofs.is_there.Reads as is-there-reads
 use Rattle.rules.proofs.go_round.Reads as go-round-reads
 use Rattle.rules.specs.Rows.{inItsRow, nearsRow}
@@ -53,8 +55,13 @@ round-block-callees t = (go-round-reads.Asked, go-round-reads.Learnt, advance-re
 abbrev straight-callees : ℕ → straight-lts.Claims
 straight-callees t = (is-there-reads.Asked, is-there-reads.Learnt, is-straight-reads.Asked, is-straight-reads.Learnt, round-block-below t, round-block.Post, next-leg-reads.Asked, next-leg-reads.Learnt, advance-reads.Asked, advance-reads.Learnt)
 
+-- round a block: the packet has come to p, and does not travel straight from there
+record Round (columns rows : ℕ) (marks : List ℕ) (p₀ : Packet) (out₀ : List ℕ) (begun limit : ℕ) (p : Packet) (out : List ℕ) (made left : ℕ) : Type 0 where
+  pub along : Along columns rows marks p₀ out₀ begun limit p out made left
+  pub off : goesStraight p ≡ false
+
 abbrev round-block-Inv-loop : round-block-lts.InvT-loop
-round-block-Inv-loop columns rows marks out₀ begun limit p₀ made₀ left₀ out p made left = Along columns rows marks p₀ out₀ begun limit p out made left × (goesStraight p ≡ false)
+round-block-Inv-loop columns rows marks out₀ begun limit p₀ made₀ left₀ out p made left = Round columns rows marks p₀ out₀ begun limit p out made left
 
 abbrev round-block-μ-loop : round-block-lts.MeasureT-loop
 round-block-μ-loop columns rows marks out₀ begun limit p₀ made₀ left₀ out p made left = left
@@ -67,33 +74,38 @@ straight-μ-loop columns rows marks out₀ begun limit p₀ made₀ left₀ out 
 
 round-block-loop-holds : (t : ℕ) →
     round-block-lts.Need-loop-holds (round-block-callees t) (round-block-at t) round-block.Post round-block-Inv-loop round-block-μ-loop
-round-block-loop-holds t c = (along-none (c .before .before .pre .1 .0), c .before .before .pre .1 .1)
+round-block-loop-holds t c =
+    let asked = c .before .before .pre .1 in
+    record { along = along-none (asked .0); off = asked .1 }
 
 round-block-go-round-requires : (t : ℕ) →
     round-block-lts.Need-go-round-requires (round-block-callees t) (round-block-at t) round-block.Post round-block-Inv-loop round-block-μ-loop
 round-block-go-round-requires t c κs =
-    (c .loop .inv .0 .going .on-mesh .here, or-none (inItsRow (c .loop .p)) (nearsRow (c .loop .p)) (c .loop .inv .1) .1)
+    (c .loop .inv .along .going .on-mesh .here, or-none (inItsRow (c .loop .p)) (nearsRow (c .loop .p)) (c .loop .inv .off) .1)
 
 round-block-advance-requires : (t : ℕ) →
     round-block-lts.Need-advance-requires (round-block-callees t) (round-block-at t) round-block.Post round-block-Inv-loop round-block-μ-loop
 round-block-advance-requires t c κs =
-    let at-loop = c .before .before in
-    let one = round-one (at-loop .loop .inv .1) (c .before .go-round .ensures) in
-    along-lands (at-loop .loop .inv .0) one
+    let at-round = c .before in
+    let at-loop = at-round .before in
+    let one = round-one (at-loop .loop .inv .off) (at-round .go-round .ensures) in
+    along-lands (at-loop .loop .inv .along) one
 
 round-block-add-made : (t : ℕ) →
     round-block-lts.Need-add-made (round-block-callees t) (round-block-at t) round-block.Post round-block-Inv-loop round-block-μ-loop
 round-block-add-made t c =
-    let at-loop = c .before .before .before .before .before in
-    let one = round-one (at-loop .loop .inv .1) (c .before .before .before .before .go-round .ensures) in
-    omega (arith, along-few (at-loop .loop .inv .0) one)
+    let at-round = c .before .before .before .before in
+    let at-loop = at-round .before in
+    let one = round-one (at-loop .loop .inv .off) (at-round .go-round .ensures) in
+    omega (arith, along-few (at-loop .loop .inv .along) one)
 
 round-block-sub-left : (t : ℕ) →
     round-block-lts.Need-sub-left (round-block-callees t) (round-block-at t) round-block.Post round-block-Inv-loop round-block-μ-loop
 round-block-sub-left t c =
-    let at-loop = c .before .before .before .before .before in
-    let one = round-one (at-loop .loop .inv .1) (c .before .before .before .before .go-round .ensures) in
-    omega (arith, along-few (at-loop .loop .inv .0) one)
+    let at-round = c .before .before .before .before in
+    let at-loop = at-round .before in
+    let one = round-one (at-loop .loop .inv .off) (at-round .go-round .ensures) in
+    omega (arith, along-few (at-loop .loop .inv .along) one)
 
 round-block-is-straight-requires : (t : ℕ) →
     round-block-lts.Need-is-straight-requires (round-block-callees t) (round-block-at t) round-block.Post round-block-Inv-loop round-block-μ-loop
@@ -102,50 +114,55 @@ round-block-is-straight-requires t c κs = tt
 round-block-straight-requires : (t : ℕ) →
     round-block-lts.Need-straight-requires (round-block-callees t) (round-block-at t) round-block.Post round-block-Inv-loop round-block-μ-loop
 round-block-straight-requires t c κs =
-    let at-loop = c .before .before .before .before .before .before .before .before in
-    let one = round-one (at-loop .loop .inv .1) (c .before .before .before .before .before .before .before .go-round .ensures) in (
-      omega (arith, c .before .before .before .before .before .before .before .before .before .before .before .pre .0, at-loop .loop .inv .0 .fell, along-few (at-loop .loop .inv .0) one),
-      along-leg (at-loop .loop .inv .0) one (omega arith)
-          (c .before .before .before .before .before .advance .ensures) .going,
-    )
+    let moved = c .before .before .before .before .before in
+    let at-round = moved .before .before in
+    let at-loop = at-round .before in
+    let one = round-one (at-loop .loop .inv .off) (at-round .go-round .ensures) in
+    let along = at-loop .loop .inv .along in
+    let begun = at-loop .before .before .before .pre .0 in
+    (omega (arith, begun, along .fell, along-few along one), along-leg along one (omega arith) (moved .advance .ensures) .going)
 
 round-block-same-length : (t : ℕ) →
     round-block-lts.Need-same-length (round-block-callees t) (round-block-at t) round-block.Post round-block-Inv-loop round-block-μ-loop
 round-block-same-length t c =
-    let at-loop = c .before .before .before .before .before .before .before .before .before .before .before in
-    let one =
-    round-one (at-loop .loop .inv .1)
-    (c .before .before .before .before .before .before .before .before .before .before .go-round .ensures) in
-    c .before .before .straight .kept .1 .1 .1 .1 .0 ∙
-    along-leg (at-loop .loop .inv .0) one (omega arith)
-    (c .before .before .before .before .before .before .before .before .advance .ensures) .size
+    let handed = c .before .before in
+    let moved = handed .before .before .before .before .before .before in
+    let at-round = moved .before .before in
+    let at-loop = at-round .before in
+    let one = round-one (at-loop .loop .inv .off) (at-round .go-round .ensures) in
+    let leg = along-leg (at-loop .loop .inv .along) one (omega arith) (moved .advance .ensures) in
+    handed .straight .kept .1 .1 .1 .1 .0 ∙ leg .size
 
 round-block-returns : (t : ℕ) →
     round-block-lts.Need-returns (round-block-callees t) (round-block-at t) round-block.Post round-block-Inv-loop round-block-μ-loop
 round-block-returns t c =
-    let at-loop = c .before .before .before .before .before .before .before .before .before .before .before in
-    let one =
-    round-one (at-loop .loop .inv .1)
-    (c .before .before .before .before .before .before .before .before .before .before .go-round .ensures) in
-    along-leg (at-loop .loop .inv .0) one (omega arith)
-    (c .before .before .before .before .before .before .before .before .advance .ensures) .onward
-    (c .before .before .straight .ensures)
+    let handed = c .before .before in
+    let moved = handed .before .before .before .before .before .before in
+    let at-round = moved .before .before in
+    let at-loop = at-round .before in
+    let one = round-one (at-loop .loop .inv .off) (at-round .go-round .ensures) in
+    let leg = along-leg (at-loop .loop .inv .along) one (omega arith) (moved .advance .ensures) in
+    leg .onward (handed .straight .ensures)
 
 round-block-loop-less : (t : ℕ) →
     round-block-lts.Need-loop-less (round-block-callees t) (round-block-at t) round-block.Post round-block-Inv-loop round-block-μ-loop
 round-block-loop-less t c =
-    let at-loop = c .before .before .before .before .before .before .before in
-    let one = round-one (at-loop .loop .inv .1) (c .before .before .before .before .before .before .go-round .ensures) in
-    omega (arith, along-few (at-loop .loop .inv .0) one)
+    let at-round = c .before .before .before .before .before .before in
+    let at-loop = at-round .before in
+    let one = round-one (at-loop .loop .inv .off) (at-round .go-round .ensures) in
+    omega (arith, along-few (at-loop .loop .inv .along) one)
 
 round-block-loop-again : (t : ℕ) →
     round-block-lts.Need-loop-again (round-block-callees t) (round-block-at t) round-block.Post round-block-Inv-loop round-block-μ-loop
 round-block-loop-again t c =
-    let at-loop = c .before .before .before .before .before .before .before in
-    let one = round-one (at-loop .loop .inv .1) (c .before .before .before .before .before .before .go-round .ensures) in (
-      along-leg (at-loop .loop .inv .0) one (omega arith) (c .before .before .before .before .advance .ensures),
-      sym (c .before .is-straight .ensures) ∙ c .if1 .left,
-    )
+    let moved = c .before .before .before .before in
+    let at-round = moved .before .before in
+    let at-loop = at-round .before in
+    let one = round-one (at-loop .loop .inv .off) (at-round .go-round .ensures) in
+    record {
+      along = along-leg (at-loop .loop .inv .along) one (omega arith) (moved .advance .ensures);
+      off = sym (c .before .is-straight .ensures) ∙ c .if1 .left;
+    }
 
 straight-loop-holds : (t : ℕ) → straight-lts.Need-loop-holds (straight-callees t) (straight-at t) straight.Post straight-Inv-loop straight-μ-loop
 straight-loop-holds t c = along-none (c .before .before .pre .1)
@@ -189,32 +206,37 @@ straight-next-leg-requires t c κs =
 straight-advance-requires : (t : ℕ) →
     straight-lts.Need-advance-requires (straight-callees t) (straight-at t) straight.Post straight-Inv-loop straight-μ-loop
 straight-advance-requires t c κs =
-    let at-loop = c .before .before .before .before .before .before in
-    let leg = c .before .next-leg .ensures in
+    let at-leg = c .before in
+    let at-loop = at-leg .before .before .before .before .before in
+    let leg = at-leg .next-leg .ensures in
     along-lands (at-loop .loop .inv) (leg .1)
 
 straight-add-made : (t : ℕ) → straight-lts.Need-add-made (straight-callees t) (straight-at t) straight.Post straight-Inv-loop straight-μ-loop
 straight-add-made t c =
-    let at-loop = c .before .before .before .before .before .before .before .before .before in
-    let leg = c .before .before .before .before .next-leg .ensures in
+    let at-leg = c .before .before .before .before in
+    let at-loop = at-leg .before .before .before .before .before in
+    let leg = at-leg .next-leg .ensures in
     omega (arith, along-few (at-loop .loop .inv) (leg .1))
 
 straight-sub-left : (t : ℕ) → straight-lts.Need-sub-left (straight-callees t) (straight-at t) straight.Post straight-Inv-loop straight-μ-loop
 straight-sub-left t c =
-    let at-loop = c .before .before .before .before .before .before .before .before .before in
-    let leg = c .before .before .before .before .next-leg .ensures in
+    let at-leg = c .before .before .before .before in
+    let at-loop = at-leg .before .before .before .before .before in
+    let leg = at-leg .next-leg .ensures in
     omega (arith, along-few (at-loop .loop .inv) (leg .1))
 
 straight-loop-less : (t : ℕ) → straight-lts.Need-loop-less (straight-callees t) (straight-at t) straight.Post straight-Inv-loop straight-μ-loop
 straight-loop-less t c =
-    let at-loop = c .before .before .before .before .before .before .before .before .before in
-    let leg = c .before .before .before .before .next-leg .ensures in
+    let at-leg = c .before .before .before .before in
+    let at-loop = at-leg .before .before .before .before .before in
+    let leg = at-leg .next-leg .ensures in
     omega (arith, leg .0, along-few (at-loop .loop .inv) (leg .1))
 
 straight-loop-again : (t : ℕ) → straight-lts.Need-loop-again (straight-callees t) (straight-at t) straight.Post straight-Inv-loop straight-μ-loop
 straight-loop-again t c =
-    let at-loop = c .before .before .before .before .before .before .before .before .before in
-    let leg = c .before .before .before .before .next-leg .ensures in
+    let at-leg = c .before .before .before .before in
+    let at-loop = at-leg .before .before .before .before .before in
+    let leg = at-leg .next-leg .ensures in
     along-leg (at-loop .loop .inv) (leg .1) (leg .0) (c .before .before .advance .ensures)
 
 straight-same-length-2 : (t : ℕ) →
