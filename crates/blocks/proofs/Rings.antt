@@ -1,4 +1,5 @@
--- A look at the places round one, row by row. Assumes nothing.
+-- A place in no block is on a ring exactly if a look at the three rows round it finds a bad node; the code looks row by row. Assumes
+-- nothing.
 use mathlib.Core.Path.{_≡_, sym}
 use mathlib.Core.Bool.{Bool, true, false, _||_, and-false}
 use mathlib.Core.List.{List}

@@ -1,4 +1,4 @@
--- A hop tested in the order of the numbers. Assumes nothing.
+-- A hop is tested in the order of the numbers, so each mistake is the first whose test holds. Assumes nothing.
 use mathlib.Core.Path.{_≡_, refl, sym, _∙_}
 use mathlib.Core.Bool.{Bool, true, false, not}
 use Prim.Native.Nat.{ℕ}

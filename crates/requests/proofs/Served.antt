@@ -1,4 +1,4 @@
--- What refusal 9 comes to, as the code tests it. Assumes nothing.
+-- What refusal 9 comes to, as the code tests it, one part after another. Assumes nothing.
 use mathlib.Core.Path.{_≡_}
 use mathlib.Core.Bool.{Bool, true, false, not}
 use Prim.Native.Nat.{ℕ}

@@ -1,4 +1,4 @@
--- Copying the rows of a round that are due. Assumes nothing.
+-- Copying the due rows of a round makes the round: the others would not change. Assumes nothing.
 use mathlib.Core.Path.{_≡_, refl, sym, _∙_}
 use mathlib.Core.Bool.{Bool, true, false}
 use mathlib.Core.List.{List}

@@ -1,4 +1,5 @@
--- What the loop of the rounds keeps. Assumes nothing.
+-- What the loop of the rounds keeps: the marking to come stays the same, and a round that changes something leaves fewer safe nodes.
+-- Assumes nothing.
 use mathlib.Core.Path.{_≡_, refl, _∙_}
 use mathlib.Core.Logic.{inl, inr}
 use mathlib.Core.Bool.{Bool, true, false}

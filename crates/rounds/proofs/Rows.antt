@@ -1,4 +1,4 @@
--- What the loops over rows keep. Assumes nothing.
+-- What the loops over rows keep: the rows before this one are done. Assumes nothing.
 use mathlib.Core.Path.{_≡_, refl, _∙_}
 use mathlib.Core.List.{List}
 use Prim.Native.Nat.{ℕ, _+_, _-_, _*_, _≤_, _<_}

@@ -1,4 +1,4 @@
--- The cases of "Route": the map's refusals, then the marking. Assumes nothing.
+-- The cases of "Route": the map's refusals as they were told, or what is done on its marking. Assumes nothing.
 use mathlib.Core.Path.{_≡_, sym, _∙_}
 use mathlib.Core.List.{List}
 use Prim.Native.Nat.{ℕ}

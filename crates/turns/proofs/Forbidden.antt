@@ -1,4 +1,4 @@
--- The turn rules as the test goes through them. Assumes nothing.
+-- The turn rules by the hop after, as the test goes through them. Assumes nothing.
 use mathlib.Core.Path.{_≡_, refl}
 use mathlib.Core.Bool.{Bool, true, false, not, _&&_, _||_}
 use Prim.Native.Nat.{ℕ}

@@ -1,4 +1,4 @@
--- A leg of the two modes, and where they end. Assumes nothing.
+-- A leg of hops by the rules takes the walk on, and where the packet is there the walk ends. Assumes nothing.
 use mathlib.Core.Path.{_≡_, refl, sym, _∙_}
 use mathlib.Core.Bool.{true, false}
 use mathlib.Core.List.{List, _∷_}

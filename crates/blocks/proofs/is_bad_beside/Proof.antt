@@ -1,4 +1,4 @@
--- One of the two sides, then the other. Assumes nothing.
+-- A bad node to the east decides; if there is none, the west does. Assumes nothing.
 use borrow.Author.Needs.{needs}
 use Rattle.blocks.proofs.Rings.{beside-east, beside-west}
 use Rattle.blocks.proofs.is_bad_beside.Statement.{statement}

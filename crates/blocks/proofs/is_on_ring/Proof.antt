@@ -1,4 +1,5 @@
--- The place's own row, the one north of it, the one south of it. Assumes nothing.
+-- The rows are looked at in turn, the place's own, the one north and the one south of it; the first that has a bad node near decides.
+-- Assumes nothing.
 use native.Mathlib.Omega.{arith}
 use Rattle.nodes.proofs.Lookup.{on-mesh}
 use Rattle.blocks.proofs.Rings.{ring-here, ring-north, ring-none, ring-south}

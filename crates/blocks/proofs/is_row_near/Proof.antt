@@ -1,4 +1,4 @@
--- A row beyond the mesh, or the five places of the row. Assumes nothing.
+-- A row beyond the mesh has no bad node; in another the place itself, then its neighbours, then the second ones decide. Assumes nothing.
 use borrow.Author.Needs.{needs}
 use Rattle.blocks.proofs.Rings.{row-beyond, row-here, row-first, row-second}
 use Rattle.blocks.proofs.is_row_near.Statement.{statement}

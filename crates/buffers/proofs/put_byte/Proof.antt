@@ -1,4 +1,4 @@
--- One byte. Assumes nothing.
+-- One store writes one byte, and the index after it is still within the buffer or at its end. Assumes nothing.
 use borrow.Author.Needs.{needs}
 use Rattle.buffers.proofs.Copy.{puts-byte}
 use Rattle.buffers.proofs.put_byte.Statement.{statement}

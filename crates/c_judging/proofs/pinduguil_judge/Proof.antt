@@ -1,4 +1,4 @@
--- The verdict of the operation, its index put first. Assumes nothing.
+-- The operation's verdict fixes both numbers: the code is returned, the index is put first. Assumes nothing.
 use borrow.Author.Needs.{needs}
 use Rattle.c_judging.proofs.Numbers.{judges}
 use Rattle.c_judging.proofs.pinduguil_judge.Statement.{statement}

@@ -1,4 +1,4 @@
--- A number put first. Assumes nothing.
+-- Where there is room the first number is replaced; an empty list stays as it is. Assumes nothing.
 use borrow.Author.Needs.{needs}
 use native.Mathlib.Omega.{arith}
 use Rattle.c_judging.proofs.Numbers.{put, no-room}

@@ -1,4 +1,4 @@
--- Mark blocks for C and Rust. Assumes nothing.
+-- The operation keeps its promise, and its answer has this code. Assumes nothing.
 use borrow.Author.Needs.{needs}
 use Rattle.c_marking.proofs.Numbers.{marks}
 use Rattle.c_marking.proofs.pinduguil_mark.Statement.{statement}

@@ -1,4 +1,4 @@
--- Whether numbers are a packet's record. Assumes nothing.
+-- The length is tested first, so the third number is there to be read. Assumes nothing.
 use borrow.Author.Needs.{needs}
 use borrow.Author.Tests.{eq-eqb, ne-eqb}
 use Rattle.c_moving.specs.Numbers.{isRecord}

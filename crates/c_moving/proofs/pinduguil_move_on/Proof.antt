@@ -1,4 +1,4 @@
--- Move on for C and Rust. Assumes nothing.
+-- Numbers that are no record change nothing; those of a record are read, moved on by the operation and written back. Assumes nothing.
 use borrow.Author.Needs.{needs}
 use mathlib.Core.Path.{sym, _∙_}
 use borrow.Author.Tests.{not-true, not-false}

@@ -1,4 +1,4 @@
--- A packet's record from its numbers. Assumes nothing.
+-- Each part of the record is read from its own place among the five numbers. Assumes nothing.
 use borrow.Author.Needs.{needs}
 use Rattle.c_moving.specs.Numbers.{packetOf}
 use Rattle.c_moving.proofs.read_packet.Statement.{statement}

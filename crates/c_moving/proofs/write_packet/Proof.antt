@@ -1,4 +1,4 @@
--- A packet's record in numbers. Assumes nothing.
+-- Five stores, one after another, leave just the record's five numbers. Assumes nothing.
 use borrow.Author.Needs.{needs}
 use native.Mathlib.Omega.{arith}
 use lib.ListN.{length-set}

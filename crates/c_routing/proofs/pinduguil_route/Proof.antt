@@ -1,4 +1,4 @@
--- Route for C and Rust. Assumes nothing.
+-- The places are those of the call; the operation keeps its promise, and its answer has this code. Assumes nothing.
 use borrow.Author.Needs.{needs}
 use Rattle.c_routing.proofs.Numbers.{routes}
 use Rattle.c_routing.proofs.pinduguil_route.Statement.{statement}

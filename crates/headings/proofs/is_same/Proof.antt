@@ -1,4 +1,4 @@
--- The letters compared. Assumes nothing.
+-- Two headings are the same hop if their letters are equal, by definition. Assumes nothing.
 use borrow.Author.Needs.{needs}
 use Rattle.mesh.specs.Headings.{same}
 use Rattle.headings.proofs.is_same.Statement.{statement}

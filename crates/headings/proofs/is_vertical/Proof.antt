@@ -1,4 +1,4 @@
--- North, then south. Assumes nothing.
+-- It is tested for north; if it is not north, the test for south decides. Assumes nothing.
 use borrow.Author.Needs.{needs}
 use Rattle.headings.proofs.is_vertical.Statement.{statement}
 use Rattle.headings.proofs.is_vertical.Tie as tie

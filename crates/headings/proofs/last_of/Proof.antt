@@ -1,4 +1,4 @@
--- Last hops in numbers. Assumes nothing.
+-- The numbers are tested in the order of the definition, and all others are none. Assumes nothing.
 use borrow.Author.Tests.{eq-eqb, ne-eqb}
 use Rattle.mesh.specs.Headings.{lastOf}
 use Rattle.headings.proofs.last_of.Statement.{statement}

@@ -1,4 +1,4 @@
--- The letters in turn; E and N lie before O, S and W after it. Assumes nothing.
+-- E and N lie before O, S and W after it, so each byte is compared with the letters of its half. Assumes nothing.
 use native.Mathlib.Omega.{arith}
 use borrow.Author.Tests.{eq-eqb, ne-eqb}
 use Rattle.mesh.specs.Headings.{letter, named}

@@ -1,4 +1,4 @@
--- By the heading. Assumes nothing.
+-- Each heading has its case in the definition; to the west there are n columns to go. Assumes nothing.
 use borrow.Author.Needs.{needs}
 use Rattle.hops.specs.Moved.{columnBy}
 use Rattle.hops.proofs.column_by.Statement.{statement}

@@ -1,4 +1,4 @@
--- The rows, then the columns. Assumes nothing.
+-- The rows must agree, and then the columns decide. Assumes nothing.
 use borrow.Author.Tests.{eq-eqb, ne-eqb}
 use Rattle.mesh.specs.Hops.{isThere}
 use Rattle.hops.proofs.is_there.Statement.{statement}

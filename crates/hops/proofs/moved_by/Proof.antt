@@ -1,4 +1,4 @@
--- The row and the column. Assumes nothing.
+-- Row and column move by themselves; the last hop is this one, and the destination stays. Assumes nothing.
 use Rattle.hops.specs.Moved.{movedBy}
 use Rattle.hops.proofs.moved_by.Statement.{statement}
 use Rattle.hops.proofs.moved_by.Tie as tie

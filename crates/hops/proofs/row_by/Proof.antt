@@ -1,4 +1,4 @@
--- By the heading. Assumes nothing.
+-- Each heading has its case in the definition; to the south there are n rows to go. Assumes nothing.
 use borrow.Author.Needs.{needs}
 use Rattle.hops.specs.Moved.{rowBy}
 use Rattle.hops.proofs.row_by.Statement.{statement}

@@ -1,4 +1,4 @@
--- By the heading. Assumes nothing.
+-- Each heading has its case in the definition. Assumes nothing.
 use borrow.Author.Needs.{needs}
 use Rattle.mesh.specs.Hops.{stays}
 use Rattle.hops.proofs.stays.Statement.{statement}

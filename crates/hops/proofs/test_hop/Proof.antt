@@ -1,4 +1,4 @@
--- The tests in the order of the numbers. Assumes nothing.
+-- The tests are made in the order of the numbers; a hop that stays on the mesh leads to the node whose mark is looked up. Assumes nothing.
 use borrow.Author.Needs.{needs}
 use mathlib.Core.Path.{sym, _∙_}
 use borrow.Author.Tests.{not-false}

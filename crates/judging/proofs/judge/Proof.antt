@@ -1,4 +1,4 @@
--- The map's refusals as they were told; else the rest on its marking. Assumes nothing.
+-- The map's refusals are as they were told; else the verdict is that on its marking. Assumes nothing.
 use borrow.Author.Needs.{needs}
 use mathlib.Core.Path.{sym, _∙_}
 use native.Mathlib.Omega.{arith}

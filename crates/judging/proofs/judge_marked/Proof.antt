@@ -1,4 +1,4 @@
--- Refusals 6 and 7 as they were told; else the letters, from a place of the mesh. Assumes nothing.
+-- Refusals 6 and 7 are as they were told; where neither applies the source is on the mesh, and the letters decide. Assumes nothing.
 use borrow.Author.Needs.{needs}
 use mathlib.Core.Path.{_∙_}
 use Rattle.mesh.proofs.Tests.{told-clear}

@@ -1,10 +1,8 @@
--- The four tests of the definition, one after the other. Assumes nothing.
+-- The four tests of the definition are made one after the other. Assumes nothing.
 use borrow.Author.Needs.{needs}
 use Rattle.maps.proofs.Checks.{allowed-south, allowed-north, allowed-west, allowed-east}
 use Rattle.maps.proofs.is_allowed.Statement.{statement}
 use Rattle.maps.proofs.is_allowed.Tie as tie
-
--- The four tests of the definition, one after the other. Assumes nothing.
 
 returns : tie.Need-returns
 returns c = allowed-south _ _ _ _ (c .if1 .taken)

@@ -1,4 +1,4 @@
--- Few nodes, so that their number fits. Assumes nothing.
+-- There are at most 64 columns and rows, so their product does not overflow. Assumes nothing.
 use mathlib.Core.Path.{refl}
 use native.Mathlib.Omega.{arith}
 use Rattle.mesh.specs.Maps.{badLength}

@@ -1,4 +1,4 @@
--- The two tests of the definition, one after the other. Assumes nothing.
+-- The two tests of the definition are made one after the other. Assumes nothing.
 use borrow.Author.Tests.{eq-eqb, ne-eqb}
 use Rattle.mesh.specs.Maps.{badSize}
 use Rattle.maps.proofs.is_bad_size.Statement.{statement}

@@ -1,4 +1,4 @@
--- The refusals in order, then the marking and its number of blocks. Assumes nothing.
+-- Once no refusal is left the marking is made in the output's first part, and its blocks are counted there. Assumes nothing.
 use borrow.Author.Needs.{needs}
 use mathlib.Core.Path.{sym, ap, _∙_}
 use native.Mathlib.Omega.{arith}

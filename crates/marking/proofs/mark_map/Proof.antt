@@ -1,4 +1,4 @@
--- The refusals, then the marking in the first places. Assumes nothing.
+-- A map that refusals 1 to 5 let pass has at most 4096 nodes, so its marking has room in the first places. Assumes nothing.
 use borrow.Author.Needs.{needs}
 use mathlib.Core.Path.{sym}
 use native.Mathlib.Omega.{arith}

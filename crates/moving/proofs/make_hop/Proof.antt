@@ -1,4 +1,4 @@
--- The hop by the rules, tested. Assumes nothing.
+-- The hop by the rules is lawful exactly if its test finds no mistake. Assumes nothing.
 use borrow.Author.Needs.{needs}
 use Rattle.moving.proofs.Moves.{moves-hop, moves-unlawful}
 use Rattle.moving.proofs.make_hop.Statement.{statement}

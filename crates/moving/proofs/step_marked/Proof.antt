@@ -1,4 +1,4 @@
--- Refusals 6 to 8 as they were told; then "arrived"; then the hop, from a place of the mesh. Assumes nothing.
+-- Refusals 6 to 8 are as they were told; where none applies the packet is on the mesh, and is there or makes its hop. Assumes nothing.
 use borrow.Author.Needs.{needs}
 use mathlib.Core.Path.{sym, _∙_}
 use Rattle.mesh.specs.Requests.{tripTests}

@@ -1,4 +1,4 @@
--- One case of the definition for each heading. Assumes nothing.
+-- Each heading has its case in the definition; nothing lies beyond row 0 or column 0. Assumes nothing.
 use borrow.Author.Needs.{needs}
 use Rattle.nodes.proofs.Lookup.{ahead-east, ahead-north, ahead-south, ahead-west, ahead-off-south, ahead-off-west}
 use Rattle.nodes.proofs.is_bad_ahead.Statement.{statement}

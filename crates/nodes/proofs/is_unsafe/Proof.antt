@@ -1,4 +1,4 @@
--- The rules, case by case. Assumes nothing.
+-- With a bad node north or south any bad one to the side will do; without one both sides must be bad. Assumes nothing.
 use borrow.Author.Needs.{needs}
 use Rattle.nodes.proofs.Unsafe.{unsafe-east, unsafe-west, unsafe-second-east, unsafe-second-west, unsafe-flat, unsafe-none}
 use Rattle.nodes.proofs.is_unsafe.Statement.{statement}

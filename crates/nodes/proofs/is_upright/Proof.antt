@@ -1,4 +1,4 @@
--- North, then south. Assumes nothing.
+-- A bad node to the north decides; if there is none, the south does. Assumes nothing.
 use borrow.Author.Needs.{needs}
 use Rattle.nodes.proofs.Unsafe.{upright-north, upright-south}
 use Rattle.nodes.proofs.is_upright.Statement.{statement}

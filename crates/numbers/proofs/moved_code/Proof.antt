@@ -1,4 +1,4 @@
--- A hop has its letter, a refusal its code. Assumes nothing.
+-- A hop has its letter's number, a refusal its code. Assumes nothing.
 use borrow.Author.Needs.{needs}
 use Rattle.numbers.proofs.moved_code.Statement.{statement}
 use Rattle.numbers.proofs.moved_code.Tie as tie

@@ -1,4 +1,4 @@
--- Each case has its number; a refusal has its code. Assumes nothing.
+-- Each case has its number in the definition; a refusal has its code. Assumes nothing.
 use borrow.Author.Needs.{needs}
 use Rattle.numbers.proofs.routed_code.Statement.{statement}
 use Rattle.numbers.proofs.routed_code.Tie as tie

@@ -1,4 +1,4 @@
--- The definition's remainder. Assumes nothing.
+-- The test is the definition's. Assumes nothing.
 use mathlib.Core.Path.{refl}
 use Rattle.mesh.specs.Parity.{turnsWest}
 use Rattle.parity.proofs.turns_west.Statement.{statement}

@@ -1,4 +1,4 @@
--- Each refusal is the first whose test holds, for the source or the destination. Assumes nothing.
+-- Source and destination are tested in turn for refusal 6, then for 7; the first test that holds is the answer. Assumes nothing.
 use borrow.Author.Needs.{needs}
 use Rattle.mesh.specs.Numbers.{number, checkedNumber}
 use Rattle.requests.proofs.Refused.{source-off, destination-off, source-in, destination-in, none-applies}

@@ -1,4 +1,4 @@
--- Refusals 6 to 8 as they were told; where none applies refusal 9 decides. Assumes nothing.
+-- Refusals 6 to 8 are as they were told; where none applies the source is on the mesh, and refusal 9 decides. Assumes nothing.
 use borrow.Author.Needs.{needs}
 use Rattle.mesh.specs.Requests.{requestTests, tripTests}
 use Rattle.mesh.proofs.Tests.{told-clear, clear-before}

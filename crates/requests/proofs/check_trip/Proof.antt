@@ -1,4 +1,5 @@
--- Refusals 6 and 7 as they were told; where none applies the ring decides. Assumes nothing.
+-- Refusals 6 and 7 are as they were told; where neither applies the destination is a free place of the mesh, and the ring decides. Assumes
+-- nothing.
 use borrow.Author.Needs.{needs}
 use Rattle.mesh.proofs.Tests.{told-clear}
 use Rattle.mesh.proofs.Requests.{placed}

@@ -1,4 +1,4 @@
--- Beyond the last row or beyond the last column. Assumes nothing.
+-- A place is off the mesh beyond the last row or beyond the last column, whatever is marked. Assumes nothing.
 use Rattle.requests.proofs.Refused.{off-north, off-east}
 use Rattle.requests.proofs.is_off_mesh.Statement.{statement}
 use Rattle.requests.proofs.is_off_mesh.Tie as tie

@@ -1,4 +1,4 @@
--- The column, then the west neighbour, then where the destination lies. Assumes nothing.
+-- The condition has three parts, tested in turn: the column, the west neighbour, and where the destination lies. Assumes nothing.
 use borrow.Author.Needs.{needs}
 use Rattle.mesh.specs.Requests.{unserved}
 use Rattle.requests.proofs.Served.{served-column, served-open, shut-row, shut-west}

@@ -1,4 +1,4 @@
--- The numbers before i are copied. Assumes nothing.
+-- The numbers before index i are copied, and it is known whether one of them changed. Assumes nothing.
 use mathlib.Core.Path.{_≡_, refl}
 use mathlib.Core.Logic.{⊎-elim}
 use mathlib.Core.List.{List}

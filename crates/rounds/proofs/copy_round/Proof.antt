@@ -1,4 +1,4 @@
--- The rows before this one are copied. Assumes nothing.
+-- The rows before this one are as the round leaves them, and it is known which of them changed. Assumes nothing.
 use mathlib.Core.Path.{_≡_, refl, _∙_}
 use mathlib.Core.Logic.{⊎-elim}
 use mathlib.Core.List.{List}

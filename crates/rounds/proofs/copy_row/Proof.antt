@@ -1,4 +1,4 @@
--- The row is a part of the map. Assumes nothing.
+-- A row is a part of the map, and is copied as one. Assumes nothing.
 use borrow.Author.Needs.{needs}
 use mathlib.Core.Path.{refl}
 use native.Mathlib.Omega.{arith}

@@ -1,4 +1,4 @@
--- The map copied, then the rounds. Assumes nothing.
+-- The copy of the whole map is the map, and the rounds settle it. Assumes nothing.
 use borrow.Author.Needs.{needs}
 use mathlib.Core.Path.{ap, _∙_}
 use native.Mathlib.Omega.{arith}

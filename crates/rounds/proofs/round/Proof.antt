@@ -1,4 +1,4 @@
--- The due rows before this one are done. Assumes nothing.
+-- The due rows before this one are as the round leaves them; a row's writing touches no earlier one. Assumes nothing.
 use mathlib.Core.Path.{_≡_, refl, ap, _∙_}
 use mathlib.Core.Logic.{⊎-elim}
 use mathlib.Core.List.{List}

@@ -1,4 +1,4 @@
--- The due rows, made and copied. Assumes nothing.
+-- The rows near a changed one are due; no other can change, so copying the due rows makes the round. Assumes nothing.
 use borrow.Author.Needs.{needs}
 use Rattle.rounds.proofs.Rows.{others-settled}
 use Rattle.rounds.proofs.round_in_place.Statement.{statement}

@@ -1,4 +1,4 @@
--- The row's nodes before this column are done. Assumes nothing.
+-- The row's nodes before this column are as the round leaves them. Assumes nothing.
 use mathlib.Core.Path.{_≡_}
 use mathlib.Core.List.{List}
 use Prim.Native.Nat.{_≤_, _-_, ℕ}

@@ -1,4 +1,5 @@
--- Each round leaves the marking to come as it is. Assumes nothing.
+-- No round changes what the marking will be, each that changes something leaves fewer safe nodes, and where none does it is the marking.
+-- Assumes nothing.
 use mathlib.Core.Path.{_≡_, refl, sym, _∙_}
 use mathlib.Core.List.{List}
 use mathlib.Core.Bool.{Bool}

@@ -1,4 +1,4 @@
--- The rows before this one are told. Assumes nothing.
+-- Of the rows before this one it is known whether they are due. Assumes nothing.
 use mathlib.Core.Path.{_≡_, refl}
 use mathlib.Core.List.{List}
 use Prim.Native.Nat.{_≤_, _-_, ℕ}

@@ -1,4 +1,4 @@
--- The map's refusals as they were told; else the rest on its marking. Assumes nothing.
+-- The map's refusals are as they were told; else what is done is what is done on its marking. Assumes nothing.
 use borrow.Author.Needs.{needs}
 use mathlib.Core.Path.{sym}
 use native.Mathlib.Omega.{arith}

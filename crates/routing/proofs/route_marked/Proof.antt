@@ -1,4 +1,4 @@
--- Refusals 6 to 9 as they were told; then the hops are counted if need be, and walked. Assumes nothing.
+-- Refusals 6 to 9 are as they were told; where none applies the hops lead to the destination, and are written if they fit. Assumes nothing.
 use borrow.Author.Needs.{needs}
 use mathlib.Core.Path.{sym, _∙_}
 use borrow.Author.Tests.{not-true, not-false}

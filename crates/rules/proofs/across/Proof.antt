@@ -1,4 +1,4 @@
--- The column, then the node toward the row. Assumes nothing.
+-- The hop toward the row is made where the column permits the turn and the node is free, else the one to the side. Assumes nothing.
 use borrow.Author.Needs.{needs}
 use mathlib.Core.Path.{refl}
 use Rattle.rules.proofs.Rules.{across-other, across-blocked, across-toward}

@@ -1,4 +1,4 @@
--- Away from the row by rule 3, along it by rules 4 and 6. Assumes nothing.
+-- The last hop does not lead toward the row: if it was vertical it leads away, which is rule 3, else rule 4 or 6 applies. Assumes nothing.
 use borrow.Author.Needs.{needs}
 use Rattle.mesh.specs.Rules.{toward}
 use Rattle.rules.specs.Rows.{nearsRow}

@@ -1,4 +1,4 @@
--- By the last hop. Assumes nothing.
+-- Only a last hop south is repeated as such; after any other the hop is north. Assumes nothing.
 use borrow.Author.Needs.{needs}
 use Rattle.mesh.specs.Rules.{again}
 use Rattle.rules.proofs.Rules.{again-south, again-north}

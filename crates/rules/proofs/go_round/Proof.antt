@@ -1,4 +1,4 @@
--- By the last hop. Assumes nothing.
+-- A packet without a last hop goes by rule 6, another by its last hop. Assumes nothing.
 use borrow.Author.Needs.{needs}
 use Rattle.mesh.specs.Rules.{otherRow}
 use Rattle.rules.proofs.go_round.Statement.{statement}

@@ -1,4 +1,4 @@
--- In the destination's row or not. Assumes nothing.
+-- Rule 2 applies in the destination's row, rules 3 to 6 in any other. Assumes nothing.
 use borrow.Author.Needs.{needs}
 use mathlib.Core.Path.{sym, _∙_}
 use Rattle.mesh.specs.Rules.{hop}

@@ -1,4 +1,4 @@
--- Rule 3 with the hop of a stop. Assumes nothing.
+-- Rule 2 is rule 3 with the hop that a stop asks for. Assumes nothing.
 use borrow.Author.Needs.{needs}
 use Rattle.mesh.specs.Rules.{inRow, leaving}
 use Rattle.rules.proofs.in_row.Statement.{statement}

@@ -1,4 +1,4 @@
--- As it is defined. Assumes nothing.
+-- The test is the definition's. Assumes nothing.
 use mathlib.Core.Path.{refl}
 use Rattle.rules.specs.Rows.{inItsRow}
 use Rattle.rules.proofs.is_in_row.Statement.{statement}

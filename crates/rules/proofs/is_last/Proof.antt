@@ -1,4 +1,4 @@
--- By the last hop. Assumes nothing.
+-- A packet without a last hop has none that way; else the two headings are compared. Assumes nothing.
 use borrow.Author.Needs.{needs}
 use Rattle.rules.specs.Rows.{lastIs}
 use Rattle.rules.proofs.is_last.Statement.{statement}

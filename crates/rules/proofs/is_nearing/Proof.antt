@@ -1,4 +1,4 @@
--- The way to the row, and the last hop. Assumes nothing.
+-- The last hop is compared with the way to the destination's row. Assumes nothing.
 use borrow.Author.Needs.{needs}
 use mathlib.Core.Path.{refl}
 use mathlib.Core.List.{[]}

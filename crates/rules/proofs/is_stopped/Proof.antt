@@ -1,4 +1,4 @@
--- The next node, then the column, then the second node. Assumes nothing.
+-- The next node decides if it is bad; else the second one does, in the columns of the side's own turns. Assumes nothing.
 use borrow.Author.Needs.{needs}
 use mathlib.Core.Path.{refl}
 use Rattle.rules.proofs.Rules.{stopped-next, stopped-not, stopped-second}

@@ -1,4 +1,4 @@
--- Stopped or not. Assumes nothing.
+-- At a stop the hop is repeated, else it is to the side. Assumes nothing.
 use borrow.Author.Needs.{needs}
 use mathlib.Core.Path.{refl}
 use Rattle.rules.proofs.Rules.{leaving-stopped, leaving-side}

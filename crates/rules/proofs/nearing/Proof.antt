@@ -1,4 +1,4 @@
--- The next node. Assumes nothing.
+-- The hop is repeated if the next node is free. Assumes nothing.
 use borrow.Author.Needs.{needs}
 use Rattle.rules.proofs.Rules.{nearing-blocked, nearing-again}
 use Rattle.rules.proofs.nearing.Statement.{statement}

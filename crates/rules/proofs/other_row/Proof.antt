@@ -1,4 +1,4 @@
--- Toward the row by rule 5, else by the other rules. Assumes nothing.
+-- A last hop toward the row goes on by rule 5, any other by rules 3, 4 and 6. Assumes nothing.
 use borrow.Author.Needs.{needs}
 use mathlib.Core.Path.{refl, sym, _∙_}
 use mathlib.Core.List.{[]}

@@ -1,4 +1,4 @@
--- By the order of the columns. Assumes nothing.
+-- The order of the two columns decides. Assumes nothing.
 use borrow.Author.Tests.{lt-ltb, le-ltb}
 use Rattle.mesh.specs.Rules.{side}
 use Rattle.rules.proofs.side.Statement.{statement}

@@ -1,4 +1,4 @@
--- By the order of the rows. Assumes nothing.
+-- The order of the two rows decides. Assumes nothing.
 use borrow.Author.Tests.{lt-ltb, le-ltb}
 use Rattle.mesh.specs.Rules.{toward}
 use Rattle.rules.proofs.toward.Statement.{statement}

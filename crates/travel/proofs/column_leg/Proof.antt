@@ -1,4 +1,4 @@
--- The nodes in the way are counted. Assumes nothing.
+-- The nodes before the first bad one are hops by rule 5; where there is none, rule 5 goes one hop west. Assumes nothing.
 use borrow.Author.Needs.{needs}
 use native.Mathlib.Omega.{arith}
 use mathlib.Core.Path.{refl, _≡_}

@@ -1,4 +1,4 @@
--- The nodes in the way are counted, and the last hop is tested. Assumes nothing.
+-- Up to the last free node but one nothing stops the packet, and at that one the stop is tested. Assumes nothing.
 use borrow.Author.Needs.{needs}
 use native.Mathlib.Omega.{arith}
 use Rattle.hops.specs.Moved.{movedBy}

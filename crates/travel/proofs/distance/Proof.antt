@@ -1,4 +1,4 @@
--- By the order of the two. Assumes nothing.
+-- The smaller is taken from the larger. Assumes nothing.
 use borrow.Author.Needs.{needs}
 use native.Mathlib.Omega.{arith}
 use Rattle.mesh.specs.Walk.{distance}

@@ -1,4 +1,4 @@
--- The row, then the last hop. Assumes nothing.
+-- Being in the row decides; in another the last hop does. Assumes nothing.
 use borrow.Author.Needs.{needs}
 use mathlib.Core.Path.{sym, _∙_}
 use Rattle.travel.proofs.is_straight.Statement.{statement}

@@ -1,4 +1,4 @@
--- The row, or the last hop. Assumes nothing.
+-- A packet that travels straight is in its row, or its last hop leads toward it. Assumes nothing.
 use borrow.Author.Needs.{needs}
 use mathlib.Core.Path.{sym, _∙_}
 use Rattle.travel.proofs.next_leg.Statement.{statement}

@@ -1,4 +1,4 @@
--- The hops before a stop, or the hop at it. Assumes nothing.
+-- The hops before a stop are a leg; where there is none, the hop that the stop asks for is one. Assumes nothing.
 use borrow.Author.Needs.{needs}
 use mathlib.Core.Path.{refl}
 use native.Mathlib.Omega.{arith}

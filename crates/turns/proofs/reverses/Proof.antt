@@ -1,4 +1,4 @@
--- By the first hop. Assumes nothing.
+-- Each first hop has one opposite. Assumes nothing.
 use borrow.Author.Needs.{needs}
 use Rattle.mesh.specs.Headings.{opposite}
 use Rattle.mesh.specs.Turns.{reverses}

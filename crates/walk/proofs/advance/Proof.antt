@@ -1,4 +1,4 @@
--- The letters and the packet. Assumes nothing.
+-- One letter is written n times, and the packet moves by as many hops. Assumes nothing.
 use borrow.Author.Needs.{needs}
 use Rattle.walk.proofs.advance.Statement.{statement}
 use Rattle.walk.proofs.advance.Tie as tie

@@ -1,4 +1,4 @@
--- Room enough for any route, or the hops counted. Assumes nothing.
+-- Room for the longest route is room for this one; with less the hops are counted by the same walk. Assumes nothing.
 use borrow.Author.Needs.{needs}
 use native.Mathlib.Nat.{zero-add}
 use Rattle.walk.proofs.Following.{room-enough}
