@@ -1,9 +1,10 @@
-// The nodes of a map or a marking: which are bad, and which the rules make unsafe.
+// The nodes of a map or a marking: which are bad, which the rules make unsafe, and what each becomes in a round.
 ghost use mathlib.Core.Path.{_≡_};
 ghost use Prim.Native.Nat.{_<_};
 ghost use Rattle.mesh.specs.Mesh.{mesh};
 ghost use Rattle.mesh.specs.Nodes.{bad, ahead, upright, unsafe};
 ghost use Rattle.nodes.specs.Sized.{Sized, OnMesh};
+ghost use Rattle.nodes.specs.Rounds.{nodeAfter};
 use mesh::Column;
 use mesh::Heading;
 use mesh::Row;
@@ -102,4 +103,22 @@ pub fn is_unsafe(columns: u32, rows: u32, map: &[u8], r: Row, c: Column) -> bool
         return w;
     }
     false
+}
+
+// What the node becomes in a round.
+pub fn node_after(columns: u32, rows: u32, map: &[u8], r: Row, c: Column) -> u8
+    requires { ⌜ OnMesh columns rows (now map) (r .0) (c .0) ⌝ }
+    ensures { λ x. ⌜ x ≡ nodeAfter (mesh columns rows (now (map .entry))) (r .0) (c .0) ⌝ }
+{
+    let row = r.0;
+    let column = c.0;
+    let at = row * columns + column;
+    let x = map[at as usize];
+    if x != 0 {
+        return x;
+    }
+    if is_unsafe(columns, rows, map, r, c) {
+        return 2;
+    }
+    0
 }

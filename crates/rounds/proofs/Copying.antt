@@ -10,7 +10,8 @@ use lib.Seq.{getD-set-same, getD-set-other}
 use Rattle.mesh.specs.Mesh.{Mesh}
 use Rattle.mesh.proofs.Bools.{true-false}
 use Rattle.mesh.proofs.Index.{index-within}
-use Rattle.rounds.specs.Rounds.{nodeAfter, DueAfter, RowCopied, Settled, OthersSettled, Rounded}
+use Rattle.nodes.specs.Rounds.{nodeAfter}
+use Rattle.rounds.specs.Rounds.{DueAfter, RowCopied, Settled, OthersSettled, Rounded}
 use Rattle.rounds.proofs.Settled.{round-by-rows, all-settled, settled-all}
 
 -- the rows before row r are done

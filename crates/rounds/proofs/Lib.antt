@@ -1,4 +1,3 @@
-pub mod Nodes
 pub mod Copy
 pub mod Settled
 pub mod Rows

@@ -10,7 +10,8 @@ use lib.Seq.{getD-set-same, getD-set-other}
 use Rattle.mesh.specs.Mesh.{Mesh}
 use Rattle.mesh.proofs.Index.{few-nodes, index-within}
 use Rattle.nodes.specs.Sized.{Sized}
-use Rattle.rounds.specs.Rounds.{nodeAfter, RowAfter, DueAfter, OthersSettled, Near, Spread, QuietSettled}
+use Rattle.nodes.specs.Rounds.{nodeAfter}
+use Rattle.rounds.specs.Rounds.{RowAfter, DueAfter, OthersSettled, Near, Spread, QuietSettled}
 
 pub row-fits : {columns rows r : ℕ} {map : List ℕ} → Sized columns rows map → r < rows →
     (r * columns + columns ≤ length map) × (r * columns + columns ≤ 4096)

@@ -14,7 +14,8 @@ use Rattle.mesh.specs.Nodes.{bad, ahead, upright, ruleA, ruleB, unsafe}
 use Rattle.mesh.specs.Rounds.{round, on}
 use Rattle.mesh.proofs.Index.{index-row, index-column, index-within, place-of}
 use Rattle.theory_blocks.proofs.Marking.{getD-advance, round-length}
-use Rattle.rounds.specs.Rounds.{nodeAfter, Settled, Rounded, QuietSettled}
+use Rattle.nodes.specs.Rounds.{nodeAfter}
+use Rattle.rounds.specs.Rounds.{Settled, Rounded, QuietSettled}
 
 -- The nodes of a round.
 module _ (w : Mesh) (size : length (w .map) ≡ w .columns * w .rows) where

@@ -5,12 +5,9 @@ use mathlib.Core.List.{List}
 use Prim.Native.Nat.{ℕ, _+_, _-_, _*_, _≤_, _<_}
 use lib.ListN.{length, getD}
 use Rattle.mesh.specs.Mesh.{Mesh}
+use Rattle.nodes.specs.Rounds.{nodeAfter}
 use Rattle.mesh.specs.Nodes.{bad, unsafe}
 use Rattle.mesh.specs.Rounds.{become, round}
-
--- what the node at (r, c) becomes in a round
-unfoldable pub nodeAfter : Mesh → ℕ → ℕ → ℕ
-nodeAfter w r c = become (unsafe (bad w) r c) (getD (w .map) (r * w .columns + c) 0)
 
 -- the first k nodes of row r are those after a round, and what stands before the row is as it was
 pub record RowAfter (w : Mesh) (r k : ℕ) (before after : List ℕ) : Type 0 where

@@ -3,31 +3,13 @@ ghost use mathlib.Core.Path.{_≡_};
 ghost use Prim.Native.Nat.{_≤_, _<_};
 ghost use lib.ListN.{length};
 ghost use Rattle.mesh.specs.Mesh.{mesh};
-ghost use Rattle.mesh.specs.Nodes.{bad, upright, unsafe};
+ghost use Rattle.mesh.specs.Nodes.{bad};
 ghost use Rattle.mesh.specs.Rounds.{marked};
-ghost use Rattle.nodes.specs.Sized.{Sized, OnMesh};
-ghost use Rattle.rounds.specs.Rounds.{nodeAfter, RowAfter, DueAfter, Copied, RowCopied, OthersSettled, Rounded, Near, Spread, QuietSettled};
+ghost use Rattle.nodes.specs.Sized.{Sized};
+ghost use Rattle.rounds.specs.Rounds.{RowAfter, DueAfter, Copied, RowCopied, OthersSettled, Rounded, Near, Spread, QuietSettled};
 use mesh::Column;
 use mesh::Row;
-use nodes::is_unsafe;
-
-// What the node becomes in a round.
-fn node(columns: u32, rows: u32, map: &[u8], r: Row, c: Column) -> u8
-    requires { ⌜ OnMesh columns rows (now map) (r .0) (c .0) ⌝ }
-    ensures { λ x. ⌜ x ≡ nodeAfter (mesh columns rows (now (map .entry))) (r .0) (c .0) ⌝ }
-{
-    let row = r.0;
-    let column = c.0;
-    let at = row * columns + column;
-    let x = map[at as usize];
-    if x != 0 {
-        return x;
-    }
-    if is_unsafe(columns, rows, map, r, c) {
-        return 2;
-    }
-    0
-}
+use nodes::node_after;
 
 // One row of a round.
 fn round_row(columns: u32, rows: u32, map: &[u8], next: &mut [u8], r: Row)
@@ -39,7 +21,7 @@ fn round_row(columns: u32, rows: u32, map: &[u8], next: &mut [u8], r: Row)
     let mut column: u32 = 0;
     while column < columns {
         let at = start + column;
-        next[at as usize] = node(columns, rows, map, Row(row), Column(column));
+        next[at as usize] = node_after(columns, rows, map, Row(row), Column(column));
         column += 1;
     }
 }

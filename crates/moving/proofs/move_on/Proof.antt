@@ -50,10 +50,10 @@ use Rattle.mesh.proofs.Stepped as S
 use Rattle.mesh.proofs.Stepped.Laws as S′
 use Rattle.mesh.proofs.Moved as E
 use Rattle.mesh.proofs.Moved.Laws as E′
-use Rattle.moving.proofs.step as step
-use Rattle.moving.proofs.step.Symbol as step-def
-use Rattle.moving.proofs.step.Symbol.{name as #step}
-use Rattle.moving.proofs.step.Met as step-thm
+use Rattle.steps.proofs.step as step
+use Rattle.steps.proofs.step.Symbol as step-def
+use Rattle.steps.proofs.step.Symbol.{name as #step}
+use Rattle.steps.proofs.step.Met as step-thm
 use Rattle.moving.proofs.move_on.Key.{name as #move-on}
 use Rattle.moving.proofs.move_on as move-on
 use Rattle.moving.proofs.move_on.Statement as stated
@@ -184,4 +184,4 @@ move-on-spec 𝓤 H 𝓜 𝓖 𝓡 =
     entered 𝓤 H (tripleOf 𝓤 H (𝓖 .A) move-on.signature (move-on.spec 𝓤 H (𝓖 .A) (𝓜 .mem) (𝓡 .run)))
     (tables 𝓤 H 𝓜 𝓡 code.env .C) (tables 𝓤 H 𝓜 𝓡 code.env .Λ) #move-on code.function (code.unfolded 𝓤 H 𝓜 𝓡)
     (meets 𝓤 H (𝓖 .A) (givenOf 𝓤 H 𝓜 𝓖) (𝓜 .mem) (𝓡 .run) (tablesOf 𝓤 H 𝓜 (tables 𝓤 H 𝓜 𝓡 code.env))
-    (cited 𝓤 H (Step 𝓤 H (𝓖 .A) (𝓜 .mem) (𝓡 .run)) 𝓜 𝓡 code.env #step step-def.routine code.calls-moving·step (step-thm.met 𝓤 H 𝓜 𝓖 𝓡)))
+    (cited 𝓤 H (Step 𝓤 H (𝓖 .A) (𝓜 .mem) (𝓡 .run)) 𝓜 𝓡 code.env #step step-def.routine code.calls-steps·step (step-thm.met 𝓤 H 𝓜 𝓖 𝓡)))

@@ -33,8 +33,8 @@ add-at c =
     let h = at-fits _ _ _ _ _ (record { sized = asked .0; row = asked .1; column = c .loop-test .taken }) in
     omega arith
 
-node-requires : tie.Need-node-requires Inv-loop μ-loop
-node-requires c κs =
+node-after-requires : tie.Need-node-after-requires Inv-loop μ-loop
+node-after-requires c κs =
     let asked = c .before .before .before .before .pre in
     record { sized = asked .0; row = asked .1; column = c .loop-test .taken }
 
@@ -66,7 +66,7 @@ loop-again c =
       nodes =
           row-more _ _ _ _ _ _ (at-loop .loop .inv .nodes)
           (let h = at-fits _ _ _ _ _ (record { sized = asked .0; row = asked .1; column = c .before .loop-test .taken }) in omega (arith, at-loop .loop .inv .nodes .size))
-          (c .node .ensures);
+          (c .node-after .ensures);
     }
 
 same-length : tie.Need-same-length Inv-loop μ-loop
@@ -86,7 +86,7 @@ round-row-spec =
     mul-start
     loop-holds
     add-at
-    node-requires
+    node-after-requires
     cast-next
     slice-write-next
     add-column

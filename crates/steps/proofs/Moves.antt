@@ -32,7 +32,7 @@ use Rattle.theory_judging.proofs.Theorems.{letter-lawful}
 use Rattle.hops.specs.Tests.{Tests}
 use Rattle.marking.specs.Marks.{MarksMap}
 use Rattle.marking.proofs.Marks.{marks-refused, marks-next}
-use Rattle.moving.specs.Marked.{Moves}
+use Rattle.steps.specs.Marked.{Moves}
 
 -- a hop with something wrong is not one with nothing wrong
 wrong-some : (m : Mistake) → mistakeNumber m ≡ 0 → ⊥

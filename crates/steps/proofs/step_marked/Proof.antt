@@ -5,9 +5,9 @@ use Rattle.mesh.specs.Requests.{tripTests}
 use Rattle.mesh.proofs.Tests.{told-clear, clear-before}
 use Rattle.mesh.proofs.Requests.{placed}
 use Rattle.nodes.proofs.Lookup.{on-mesh}
-use Rattle.moving.proofs.Moves.{trip-refused, moves-arrived, moves-next}
-use Rattle.moving.proofs.step_marked.Statement.{statement}
-use Rattle.moving.proofs.step_marked.Tie as tie
+use Rattle.steps.proofs.Moves.{trip-refused, moves-arrived, moves-next}
+use Rattle.steps.proofs.step_marked.Statement.{statement}
+use Rattle.steps.proofs.step_marked.Tie as tie
 
 check-trip-requires : tie.Need-check-trip-requires
 check-trip-requires c κs = search needs

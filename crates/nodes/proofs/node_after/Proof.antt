@@ -1,10 +1,10 @@
 -- A bad node stays, a safe one goes by the rules. Assumes nothing.
 use borrow.Author.Needs.{needs}
 use native.Mathlib.Omega.{arith}
 use Rattle.nodes.proofs.Lookup.{at-fits}
-use Rattle.rounds.proofs.Nodes.{node-bad, node-turns, node-stays}
-use Rattle.rounds.proofs.node.Statement.{statement}
-use Rattle.rounds.proofs.node.Tie as tie
+use Rattle.nodes.proofs.Rounds.{node-bad, node-turns, node-stays}
+use Rattle.nodes.proofs.node_after.Statement.{statement}
+use Rattle.nodes.proofs.node_after.Tie as tie
 
 mul-at : tie.Need-mul-at
 mul-at c = let h = at-fits _ _ _ _ _ (c .before .pre) in omega arith
@@ -30,8 +30,8 @@ returns-2 c = node-turns _ _ _ (c .before .before .if1 .left) (c .before .is-uns
 returns-3 : tie.Need-returns-3
 returns-3 c = node-stays _ _ _ (c .before .before .if1 .left) (c .before .is-unsafe .ensures) (c .if2 .left)
 
-pub node-spec : {M : Type 1} → statement M
-node-spec =
+pub node-after-spec : {M : Type 1} → statement M
+node-after-spec =
     tie.close
     (tie.spec
     mul-at

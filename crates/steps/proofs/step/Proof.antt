@@ -4,9 +4,9 @@ use mathlib.Core.Path.{sym}
 use native.Mathlib.Omega.{arith}
 use lib.Seq.{length-take-le}
 use Rattle.marking.proofs.Marks.{clear-few, marks-clear, marking}
-use Rattle.moving.proofs.Moves.{map-refused, marked-moves}
-use Rattle.moving.proofs.step.Statement.{statement}
-use Rattle.moving.proofs.step.Tie as tie
+use Rattle.steps.proofs.Moves.{map-refused, marked-moves}
+use Rattle.steps.proofs.step.Statement.{statement}
+use Rattle.steps.proofs.step.Tie as tie
 
 slice-aggregate-mark-map : tie.Need-slice-aggregate-mark-map
 slice-aggregate-mark-map c = search needs

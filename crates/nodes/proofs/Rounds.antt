@@ -6,7 +6,7 @@ use lib.ListN.{getD}
 use Rattle.mesh.specs.Mesh.{Mesh}
 use Rattle.mesh.specs.Nodes.{bad, unsafe}
 use Rattle.mesh.specs.Rounds.{become}
-use Rattle.rounds.specs.Rounds.{nodeAfter}
+use Rattle.nodes.specs.Rounds.{nodeAfter}
 
 become-bad : (b : Bool) (x : ℕ) → (x ≡ 0 → ⊥) → x ≡ become b x
 unfolding become

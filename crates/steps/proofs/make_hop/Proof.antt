@@ -1,8 +1,8 @@
 -- The hop by the rules is lawful exactly if its test finds no mistake. Assumes nothing.
 use borrow.Author.Needs.{needs}
-use Rattle.moving.proofs.Moves.{moves-hop, moves-unlawful}
-use Rattle.moving.proofs.make_hop.Statement.{statement}
-use Rattle.moving.proofs.make_hop.Tie as tie
+use Rattle.steps.proofs.Moves.{moves-hop, moves-unlawful}
+use Rattle.steps.proofs.make_hop.Statement.{statement}
+use Rattle.steps.proofs.make_hop.Tie as tie
 
 hop-requires : tie.Need-hop-requires
 hop-requires c κs = search needs
