@@ -29,10 +29,10 @@ use Rattle.theory_demands.proofs.Hops.{way}
 use Rattle.theory_demands.proofs.Steps.{hopped-refused, there-refused, refused-still, hops-answer, hops-record, arrived-answer, arrived-record}
 
 -- one hop more
-reached-next : (w : Trip) (k : ℕ) (p : At) → reached (suc k) w p ≡ moved (hopAt w (reached k w p)) (reached k w p)
+reached-next : (t : Trip) (k : ℕ) (p : At) → reached (suc k) t p ≡ moved (hopAt t (reached k t p)) (reached k t p)
 unfolding reached
-reached-next w zero p = refl
-reached-next w (suc k) p = reached-next w k (moved (hopAt w p) p)
+reached-next t zero p = refl
+reached-next t (suc k) p = reached-next t k (moved (hopAt t p) p)
 
 letter-of : (hs : List Heading) (k : ℕ) (h : Heading) → k < length hs → getD (letters hs) k 0 ≡ letter (getD hs k h)
 unfolding letters

@@ -21,13 +21,13 @@ use Rattle.theory_demands.specs.Demand3.{ByRules, rule-1, hop-on, hops}
 use Rattle.theory_demands.proofs.Requests.{Clear, course-of, served-of}
 
 -- a walk that ends before its fuel is all of the hops by the rules
-ends-by-rules : (w : Trip) (n : ℕ) (p : At) → length (walk n w p) < n → ByRules w p (walk n w p)
+ends-by-rules : (t : Trip) (n : ℕ) (p : At) → length (walk n t p) < n → ByRules t p (walk n t p)
 unfolding walk
-ends-by-rules w zero p = λ h. absurd (omega arith)
-ends-by-rules w (suc n) p =
-    cond-by (λ hs. length hs < suc n → ByRules w p hs) (arrived w p)
+ends-by-rules t zero p = λ h. absurd (omega arith)
+ends-by-rules t (suc n) p =
+    cond-by (λ hs. length hs < suc n → ByRules t p hs) (arrived t p)
     (λ e h. rule-1 e)
-    (λ e h. hop-on e (ends-by-rules w n (moved (hopAt w p) p) (omega arith)))
+    (λ e h. hop-on e (ends-by-rules t n (moved (hopAt t p) p) (omega arith)))
 
 module _ {columns rows : ℕ} {map : List ℕ} {s d : Place} (clear : Clear columns rows map s d) where
   abbrev hs : List Heading

@@ -1,12 +1,41 @@
 -- Each refusal is the first whose test holds: those before it were left. Assumes nothing.
-use mathlib.Core.Path.{sym, _∙_}
+use mathlib.Core.Path.{_≡_, sym, _∙_}
+use mathlib.Core.Bool.{false}
 use borrow.Author.Needs.{needs}
 use Rattle.mesh.specs.Tests.{first}
-use Rattle.mesh.specs.Maps.{mapTests}
+use Rattle.mesh.specs.Maps.{badSize, badLength, badByte, mapTests}
 use Rattle.mesh.proofs.Maps.{good-size}
 use Rattle.maps.proofs.Checks.{sized}
 use Rattle.maps.proofs.check_map.Statement.{statement}
 use Rattle.maps.proofs.check_map.Tie as tie
+
+-- The places behind the first tests, each from the next one.
+
+abbrev entry : tie.Else1 → tie.Start
+entry c = c .before .before .before
+
+abbrev one : tie.Else2 → tie.Else1
+one c = c .before .before
+
+abbrev two : tie.Else3 → tie.Else2
+two c = c .before .before
+
+abbrev three : tie.Else4 → tie.Else3
+three c = c .before .before
+
+-- What is known there.
+
+good-columns : (c : tie.Else1) → badSize (entry c .args .columns) ≡ false
+good-columns c = sym (c .before .is-bad-size .ensures) ∙ c .if1 .left
+
+good-rows : (c : tie.Else2) → badSize (entry (one c) .args .rows) ≡ false
+good-rows c = sym (c .before .is-bad-size2 .ensures) ∙ c .if2 .left
+
+good-length : (c : tie.Else3) → let given = entry (one (two c)) .args in badLength (given .columns) (given .rows) (given .map .now) ≡ false
+good-length c = sym (c .before .is-bad-length .ensures) ∙ c .if3 .left
+
+good-bytes : (c : tie.Else4) → badByte (entry (one (two (three c))) .args .map .now) ≡ false
+good-bytes c = sym (c .before .has-bad-byte .ensures) ∙ c .if4 .left
 
 is-bad-size-requires : tie.Need-is-bad-size-requires
 is-bad-size-requires c κs = search needs
@@ -20,28 +49,16 @@ is-bad-size-requires-2 c κs = search needs
 
 returns-2 : tie.Need-returns-2
 unfolding first mapTests
-returns-2 c =
-    let at-1 = c .before .before in
-    rw (
-      sym (at-1 .before .is-bad-size .ensures) ∙ at-1 .if1 .left,
-      sym (c .before .is-bad-size2 .ensures) ∙ c .if2 .taken,
-    )
+returns-2 c = rw (good-columns (c .before .before), sym (c .before .is-bad-size2 .ensures) ∙ c .if2 .taken)
 
 is-bad-length-requires : tie.Need-is-bad-length-requires
-is-bad-length-requires c κs =
-    let at-1 = c .before .before in
-    (good-size _ (sym (at-1 .before .is-bad-size .ensures) ∙ at-1 .if1 .left), good-size _ (sym (c .before .is-bad-size2 .ensures) ∙ c .if2 .left))
+is-bad-length-requires c κs = (good-size _ (good-columns (one c)), good-size _ (good-rows c))
 
 returns-3 : tie.Need-returns-3
 unfolding first mapTests
 returns-3 c =
-    let at-2 = c .before .before in
-    let at-1 = at-2 .before .before in
-    rw (
-      sym (at-1 .before .is-bad-size .ensures) ∙ at-1 .if1 .left,
-      sym (at-2 .before .is-bad-size2 .ensures) ∙ at-2 .if2 .left,
-      sym (c .before .is-bad-length .ensures) ∙ c .if3 .taken,
-    )
+    let behind = c .before .before in
+    rw (good-columns (one behind), good-rows behind, sym (c .before .is-bad-length .ensures) ∙ c .if3 .taken)
 
 has-bad-byte-requires : tie.Need-has-bad-byte-requires
 has-bad-byte-requires c κs = search needs
@@ -49,55 +66,25 @@ has-bad-byte-requires c κs = search needs
 returns-4 : tie.Need-returns-4
 unfolding first mapTests
 returns-4 c =
-    let at-3 = c .before .before in
-    let at-2 = at-3 .before .before in
-    let at-1 = at-2 .before .before in
-    rw (
-      sym (at-1 .before .is-bad-size .ensures) ∙ at-1 .if1 .left,
-      sym (at-2 .before .is-bad-size2 .ensures) ∙ at-2 .if2 .left,
-      sym (at-3 .before .is-bad-length .ensures) ∙ at-3 .if3 .left,
-      sym (c .before .has-bad-byte .ensures) ∙ c .if4 .taken,
-    )
+    let behind = c .before .before in
+    rw (good-columns (one (two behind)), good-rows (two behind), good-length behind, sym (c .before .has-bad-byte .ensures) ∙ c .if4 .taken)
 
 has-misplaced-requires : tie.Need-has-misplaced-requires
-has-misplaced-requires c κs =
-    let at-3 = c .before .before in
-    let at-2 = at-3 .before .before in
-    let at-1 = at-2 .before .before in
-    sized _ _ _
-    (sym (at-1 .before .is-bad-size .ensures) ∙ at-1 .if1 .left)
-    (sym (at-2 .before .is-bad-size2 .ensures) ∙ at-2 .if2 .left)
-    (sym (at-3 .before .is-bad-length .ensures) ∙ at-3 .if3 .left)
+has-misplaced-requires c κs = sized _ _ _ (good-columns (one (two (three c)))) (good-rows (two (three c))) (good-length (three c))
 
 returns-5 : tie.Need-returns-5
 unfolding first mapTests
 returns-5 c =
-    let at-4 = c .before .before in
-    let at-3 = at-4 .before .before in
-    let at-2 = at-3 .before .before in
-    let at-1 = at-2 .before .before in
-    rw (
-      sym (at-1 .before .is-bad-size .ensures) ∙ at-1 .if1 .left,
-      sym (at-2 .before .is-bad-size2 .ensures) ∙ at-2 .if2 .left,
-      sym (at-3 .before .is-bad-length .ensures) ∙ at-3 .if3 .left,
-      sym (at-4 .before .has-bad-byte .ensures) ∙ at-4 .if4 .left,
-      sym (c .before .has-misplaced .ensures) ∙ c .if5 .taken,
-    )
+    let behind = c .before .before in
+    let sizes = two (three behind) in
+    rw (good-columns (one sizes), good-rows sizes, good-length (three behind), good-bytes behind, sym (c .before .has-misplaced .ensures) ∙ c .if5 .taken)
 
 returns-6 : tie.Need-returns-6
 unfolding first mapTests
 returns-6 c =
-    let at-4 = c .before .before in
-    let at-3 = at-4 .before .before in
-    let at-2 = at-3 .before .before in
-    let at-1 = at-2 .before .before in
-    rw (
-      sym (at-1 .before .is-bad-size .ensures) ∙ at-1 .if1 .left,
-      sym (at-2 .before .is-bad-size2 .ensures) ∙ at-2 .if2 .left,
-      sym (at-3 .before .is-bad-length .ensures) ∙ at-3 .if3 .left,
-      sym (at-4 .before .has-bad-byte .ensures) ∙ at-4 .if4 .left,
-      sym (c .before .has-misplaced .ensures) ∙ c .if5 .left,
-    )
+    let behind = c .before .before in
+    let sizes = two (three behind) in
+    rw (good-columns (one sizes), good-rows sizes, good-length (three behind), good-bytes behind, sym (c .before .has-misplaced .ensures) ∙ c .if5 .left)
 
 pub check-map-spec : {M : Type 1} → statement M
 check-map-spec =
