@@ -22,9 +22,11 @@ use Rattle.mesh.specs.Requests.{placeTests}
 -- 12 leaves the mesh; 13 reverses; 14 forbidden turn; 15 enters a block
 unfoldable pub hopTests : Trip → At → Heading → List Test
 hopTests t p h =
-    not (stays (t .columns) (t .rows) h (p .row) (p .column)) gives 12
-    ∷ turnsBack (p .last) h gives 13
-    ∷ turnsWrong (t .west) (p .column) (p .last) h gives 14 ∷ blocked t h 1 (p .row) (p .column) gives 15 ∷ []
+    not (stays (t .columns) (t .rows) h (p .row) (p .column)) gives 12 ∷
+    turnsBack (p .last) h gives 13 ∷
+    turnsWrong (t .west) (p .column) (p .last) h gives 14 ∷
+    blocked t h 1 (p .row) (p .column) gives 15 ∷
+    []
 
 -- what is wrong with a letter: 11 not one of E, N, S, W; 12 to 15; 0 nothing
 unfoldable pub letterMistake : Trip → At → Letter → ℕ

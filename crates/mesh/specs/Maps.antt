@@ -39,6 +39,9 @@ misplaced columns rows map = some (misplacedAt columns rows) 0 map
 -- refusals 1 to 5
 unfoldable pub mapTests : ℕ → ℕ → List ℕ → List Test
 mapTests columns rows map =
-    badSize columns gives 1
-    ∷ badSize rows gives 2
-    ∷ badLength columns rows map gives 3 ∷ badByte map gives 4 ∷ misplaced columns rows map gives 5 ∷ []
+    badSize columns gives 1 ∷
+    badSize rows gives 2 ∷
+    badLength columns rows map gives 3 ∷
+    badByte map gives 4 ∷
+    misplaced columns rows map gives 5 ∷
+    []

@@ -27,7 +27,10 @@ unserved w s d = shutIn (tripOn w d) (s .row .0) (s .column .0)
 
 -- refusals 6 and 7, of source and destination
 unfoldable pub placeTests : Mesh → Place → Place → List Test
-placeTests w s d = (offMesh w s || offMesh w d) gives 6 ∷ (inBlock w s || inBlock w d) gives 7 ∷ []
+placeTests w s d =
+    (offMesh w s || offMesh w d) gives 6 ∷
+    (inBlock w s || inBlock w d) gives 7 ∷
+    []
 
 -- refusals 6 to 8, the last one of the destination
 unfoldable pub tripTests : Mesh → Place → Place → List Test

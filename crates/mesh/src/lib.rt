@@ -30,7 +30,7 @@ pub struct Packet {
     pub destination: Place,
 }
 
-// The refusals, in the order of their numbers (specs/Refusals.antt): 1 to 10.
+// The refusals, in the order of their numbers (specs/Numbers.antt): 1 to 10.
 pub enum Refusal {
     Columns,
     Rows,
@@ -56,7 +56,7 @@ pub enum Letter {
     Other,
 }
 
-// What is wrong with a hand-in, in the order of their numbers (specs/Judging.antt): 11 to 16.
+// What is wrong with a hand-in, in the order of their numbers (specs/Numbers.antt): 11 to 16.
 pub enum Mistake {
     NoLetter,
     LeavesMesh,

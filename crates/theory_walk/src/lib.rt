@@ -1,1 +1,1 @@
-// The walk theorem: theorems about the hop rules of `mesh` round the blocks of `block_theory`, and no code.
+// The walk theorem: theorems about the hop rules of `mesh` round the blocks of `theory_blocks`, and no code.
