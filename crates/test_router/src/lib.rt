@@ -1,9 +1,6 @@
-// A second router, written from documents 001 and 01 apart from the proved one, for the test program to set against it. It shares no code,
-// type or definition with it. The nodes stand on a board of 64 x 64 bytes whatever the mesh, row r and column c at 64 r + c. Blocks are
-// found by joining boxes (document 02, E10), and not by marking nodes; refusal 9 by walking the hops.
-pub mod answers;
-pub mod areas;
-pub mod hand_ins;
-pub mod lists;
-pub mod refusals;
-pub mod trips;
+// A router of its own, for the test program to set against the proved one: written from documents 001 and 01, it shares no code, type or
+// definition with that. Blocks are boxes that are joined, not nodes that are marked, and refusal 9 is found by walking the hops. Rows and
+// columns are bytes: south of row 0 lies row 255, which is off every mesh.
+pub mod boxes;
+pub mod hops;
+pub mod routes;

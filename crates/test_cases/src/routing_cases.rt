@@ -1,0 +1,40 @@
+// Route. The output has dots where no letter is written.
+use crate::prints::faults;
+use crate::prints::node;
+use crate::prints::print;
+use crate::prints::print_answer;
+use crate::prints::print_request;
+use numbers::routed_code;
+use routing::route;
+
+fn send(p: u32, q: u32, source: u32, destination: u32, out: &mut [u8]) -> u32 {
+    let map = faults(p, q);
+    routed_code(route(10, 8, &map, node(source), node(destination), out))
+}
+
+// A request on a map with these faults.
+fn try_route(p: u32, q: u32, source: u32, destination: u32) {
+    let mut out = [b'.'; 20];
+    let answer = send(p, q, source, destination, &mut out);
+    print_request(b"route round", p, q, source, destination);
+    print_answer(answer);
+    print(b" ");
+    print(&out);
+    print(b"\n");
+}
+
+pub fn try_routes() {
+    try_route(34, 45, 15, 65);
+    try_route(34, 45, 14, 39);
+    try_route(34, 45, 30, 39);
+    try_route(34, 45, 49, 40);
+    try_route(33, 36, 30, 39);
+    try_route(44, 44, 45, 65);
+    try_route(44, 44, 45, 40);
+    try_route(44, 44, 45, 49);
+    try_route(44, 44, 0, 46);
+    try_route(44, 44, 49, 46);
+    try_route(44, 44, 49, 47);
+    try_route(44, 44, 47, 47);
+    try_route(44, 44, 0, 0);
+}

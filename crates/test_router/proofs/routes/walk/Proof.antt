@@ -1,0 +1,91 @@
+-- At most 4,096 hops are walked.
+use Prim.Native.Nat.{_≤_, _-_}
+use native.Mathlib.Omega.{arith}
+use borrow.Author.Needs.{needs}
+use Rattle.test_router.proofs.routes.walk.Statement.{statement}
+use Rattle.test_router.proofs.routes.walk.Tie as tie
+
+abbrev Inv-loop : tie.InvT-loop
+Inv-loop size list n room letters₀ t₀ last₀ i₀ letters t last i = i ≤ 4096
+
+abbrev μ-loop : tie.MeasureT-loop
+μ-loop size list n room letters₀ t₀ last₀ i₀ letters t last i = 4096 - i
+
+loop-holds : tie.Need-loop-holds Inv-loop μ-loop
+loop-holds c = omega arith
+
+is-over-requires : tie.Need-is-over-requires Inv-loop μ-loop
+is-over-requires c κs = search needs
+
+arrive-requires : tie.Need-arrive-requires Inv-loop μ-loop
+arrive-requires c κs = search needs
+
+returns : tie.Need-returns Inv-loop μ-loop
+returns c = search needs
+
+next-hop-requires : tie.Need-next-hop-requires Inv-loop μ-loop
+next-hop-requires c κs = search needs
+
+is-forbidden-requires : tie.Need-is-forbidden-requires Inv-loop μ-loop
+is-forbidden-requires c κs = search needs
+
+refuse-requires : tie.Need-refuse-requires Inv-loop μ-loop
+refuse-requires c κs = search needs
+
+returns-2 : tie.Need-returns-2 Inv-loop μ-loop
+returns-2 c = search needs
+
+after-requires : tie.Need-after-requires Inv-loop μ-loop
+after-requires c κs = search needs
+
+is-unlawful-requires : tie.Need-is-unlawful-requires Inv-loop μ-loop
+is-unlawful-requires c κs = search needs
+
+refuse-requires-2 : tie.Need-refuse-requires-2 Inv-loop μ-loop
+refuse-requires-2 c κs = search needs
+
+returns-3 : tie.Need-returns-3 Inv-loop μ-loop
+returns-3 c = search needs
+
+element-write-letters : tie.Need-element-write-letters Inv-loop μ-loop
+element-write-letters c = omega arith
+
+add-i : tie.Need-add-i Inv-loop μ-loop
+add-i c = omega arith
+
+loop-less : tie.Need-loop-less Inv-loop μ-loop
+loop-less c = omega arith
+
+loop-again : tie.Need-loop-again Inv-loop μ-loop
+loop-again c = omega arith
+
+refuse-requires-3 : tie.Need-refuse-requires-3 Inv-loop μ-loop
+refuse-requires-3 c κs = search needs
+
+returns-4 : tie.Need-returns-4 Inv-loop μ-loop
+returns-4 c = search needs
+
+pub walk-spec : {M : Type 1} → statement M
+walk-spec =
+    tie.close
+    (tie.spec
+    Inv-loop
+    μ-loop
+    loop-holds
+    is-over-requires
+    arrive-requires
+    returns
+    next-hop-requires
+    is-forbidden-requires
+    refuse-requires
+    returns-2
+    after-requires
+    is-unlawful-requires
+    refuse-requires-2
+    returns-3
+    element-write-letters
+    add-i
+    loop-less
+    loop-again
+    refuse-requires-3
+    returns-4)

@@ -1,0 +1,147 @@
+// What routing is to answer on a mesh whose map is not refused, and the bound on its hops.
+use crate::boxes::Area;
+use crate::boxes::area_at;
+use crate::boxes::is_within;
+use crate::hops::Trip;
+use crate::hops::after;
+use crate::hops::is_forbidden;
+use crate::hops::is_shut;
+use crate::hops::next_hop;
+use std::num::wrapping_add_u32;
+
+pub struct Size {
+    pub columns: u8,
+    pub rows: u8,
+}
+
+// A refusal, or 0 and the number of hops.
+pub struct Answer {
+    pub refusal: u8,
+    pub hops: usize,
+}
+
+fn refuse(why: u8) -> Answer {
+    Answer {
+        refusal: why,
+        hops: 0,
+    }
+}
+
+// A route of so many hops, with room for so many letters.
+fn arrive(hops: usize, room: usize) -> Answer {
+    if room < hops {
+        return refuse(10);
+    }
+    Answer { refusal: 0, hops }
+}
+
+fn is_off(size: Size, row: u8, column: u8) -> bool {
+    if row < size.rows {
+        return size.columns <= column;
+    }
+    true
+}
+
+fn is_over(t: Trip) -> bool {
+    if t.row == t.to_row {
+        return t.column == t.to_column;
+    }
+    false
+}
+
+// Whether the hop that leads to the next place is unlawful.
+fn is_unlawful(size: Size, list: &[u8; 4096], n: usize, next: Trip) -> bool {
+    if is_off(size, next.row, next.column) {
+        return true;
+    }
+    is_shut(list, n, next)
+}
+
+// Walks the hops by the rules and writes their letters, also if there is no room for them.
+fn walk(
+    size: Size,
+    list: &[u8; 4096],
+    n: usize,
+    trip: Trip,
+    room: usize,
+    letters: &mut [u8; 4096],
+) -> Answer {
+    let mut t = trip;
+    let mut last: u8 = 0;
+    let mut i = 0;
+    while i < 4096 {
+        if is_over(t) {
+            return arrive(i, room);
+        }
+        let h = next_hop(list, n, t, last);
+        if is_forbidden(t.column, last, h) {
+            return refuse(9);
+        }
+        t = after(t, h);
+        if is_unlawful(size, list, n, t) {
+            return refuse(9);
+        }
+        letters[i] = h;
+        last = h;
+        i += 1;
+    }
+    refuse(99)
+}
+
+// Refusals 6 to 8, or 0: a ring is a box grown by one row each way and two columns.
+fn refusal(size: Size, list: &[u8; 4096], n: usize, t: Trip) -> u8 {
+    if is_off(size, t.row, t.column) {
+        return 6;
+    }
+    if is_off(size, t.to_row, t.to_column) {
+        return 6;
+    }
+    if is_within(list, n, t.row, t.column, 0, 0) {
+        return 7;
+    }
+    if is_within(list, n, t.to_row, t.to_column, 0, 0) {
+        return 7;
+    }
+    if is_within(list, n, t.to_row, t.to_column, 1, 2) {
+        return 8;
+    }
+    0
+}
+
+pub fn answer_route(
+    size: Size,
+    list: &[u8; 4096],
+    n: usize,
+    t: Trip,
+    room: usize,
+    letters: &mut [u8; 4096],
+) -> Answer {
+    let why = refusal(size, list, n, t);
+    if why != 0 {
+        return refuse(why);
+    }
+    walk(size, list, n, t, room, letters)
+}
+
+fn distance(x: u8, y: u8) -> u8 {
+    if x < y {
+        return y - x;
+    }
+    x - y
+}
+
+// Twice (width + height + 1).
+fn detour(a: Area) -> u32 {
+    2 * ((distance(a.west, a.east) as u32) + (distance(a.south, a.north) as u32) + 3)
+}
+
+// The bound of demand 3: the distances, 2, and the detour of each box.
+pub fn bound(list: &[u8; 4096], n: usize, t: Trip) -> u32 {
+    let mut sum = (distance(t.row, t.to_row) as u32) + (distance(t.column, t.to_column) as u32) + 2;
+    let mut i = 0;
+    while i < n {
+        sum = wrapping_add_u32(sum, detour(area_at(list, i)));
+        i += 1;
+    }
+    sum
+}
