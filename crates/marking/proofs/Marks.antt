@@ -78,6 +78,9 @@ module _ (columns rows : ℕ) (map : List ℕ) where
       pub marks-clear : first (mapTests columns rows map) ≡ 0
       marks-clear = told-clear (mapTests columns rows map) e (m .checks)
 
+      pub marks-few : length map ≤ 4096
+      marks-few = clear-few columns rows map marks-clear
+
       pub marking : Marking columns rows (take (length map) after)
       marking = rw (m .marks e) (record { sized = marked-sized columns rows map marks-clear; obstacles = obstacles (accepted marks-clear) })
 

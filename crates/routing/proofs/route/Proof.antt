@@ -3,7 +3,7 @@ use borrow.Author.Needs.{needs}
 use mathlib.Core.Path.{sym}
 use native.Mathlib.Omega.{arith}
 use lib.Seq.{length-take-le}
-use Rattle.marking.proofs.Marks.{clear-few, marks-clear, marking}
+use Rattle.marking.proofs.Marks.{marks-few, marking}
 use Rattle.routing.proofs.Mapped.{map-refused, marked-routed}
 use Rattle.routing.proofs.route.Statement.{statement}
 use Rattle.routing.proofs.route.Tie as tie
@@ -28,14 +28,13 @@ enum-told c = search needs
 array-share-prefix-marks : tie.Need-array-share-prefix-marks
 array-share-prefix-marks c =
     let at-marks = c .before .before .before in
-    let clear = marks-clear _ _ _ (at-marks .mark-map .ensures) (c .enum-told .given .1) in
-    omega (arith, at-marks .mark-map .kept .1 .1 .1 .0, clear-few _ _ _ clear)
+    omega (arith, at-marks .mark-map .kept .1 .1 .1 .0, marks-few _ _ _ (at-marks .mark-map .ensures) (c .enum-told .given .1))
 
 slice-aggregate-route-marked : tie.Need-slice-aggregate-route-marked
 slice-aggregate-route-marked c =
     let at-marks = c .before .before .before .before in
-    let clear = marks-clear _ _ _ (at-marks .mark-map .ensures) (c .before .enum-told .given .1) in
-    sym (length-take-le _ _ (omega (arith, at-marks .mark-map .kept .1 .1 .1 .0, clear-few _ _ _ clear)))
+    let few = marks-few _ _ _ (at-marks .mark-map .ensures) (c .before .enum-told .given .1) in
+    sym (length-take-le _ _ (omega (arith, at-marks .mark-map .kept .1 .1 .1 .0, few)))
 
 route-marked-requires : tie.Need-route-marked-requires
 route-marked-requires c κs =

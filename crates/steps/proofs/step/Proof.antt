@@ -3,7 +3,7 @@ use borrow.Author.Needs.{needs}
 use mathlib.Core.Path.{sym}
 use native.Mathlib.Omega.{arith}
 use lib.Seq.{length-take-le}
-use Rattle.marking.proofs.Marks.{clear-few, marks-clear, marking}
+use Rattle.marking.proofs.Marks.{marks-few, marking}
 use Rattle.steps.proofs.Moves.{map-refused, marked-moves}
 use Rattle.steps.proofs.step.Statement.{statement}
 use Rattle.steps.proofs.step.Tie as tie
@@ -28,14 +28,13 @@ enum-told c = search needs
 array-share-prefix-marks : tie.Need-array-share-prefix-marks
 array-share-prefix-marks c =
     let at-marks = c .before .before .before in
-    let clear = marks-clear _ _ _ (at-marks .mark-map .ensures) (c .enum-told .given .1) in
-    omega (arith, at-marks .mark-map .kept .1 .1 .1 .0, clear-few _ _ _ clear)
+    omega (arith, at-marks .mark-map .kept .1 .1 .1 .0, marks-few _ _ _ (at-marks .mark-map .ensures) (c .enum-told .given .1))
 
 slice-aggregate-step-marked : tie.Need-slice-aggregate-step-marked
 slice-aggregate-step-marked c =
     let at-marks = c .before .before .before .before in
-    let clear = marks-clear _ _ _ (at-marks .mark-map .ensures) (c .before .enum-told .given .1) in
-    sym (length-take-le _ _ (omega (arith, at-marks .mark-map .kept .1 .1 .1 .0, clear-few _ _ _ clear)))
+    let few = marks-few _ _ _ (at-marks .mark-map .ensures) (c .before .enum-told .given .1) in
+    sym (length-take-le _ _ (omega (arith, at-marks .mark-map .kept .1 .1 .1 .0, few)))
 
 step-marked-requires : tie.Need-step-marked-requires
 step-marked-requires c κs =
