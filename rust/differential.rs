@@ -1,7 +1,7 @@
 //! The proved library against a router, a marking, a judge and a move-on written separately from document 01, on random requests: answers,
 //! every byte of an output or a record and beside it, and that maps and letters are as they were. Prints counts; at the first difference it
 //! prints the case and exits with status 1.
-//!   rt staticlib ffi && rustc -O rust/differential.rs -L target/staticlib -l static=ffi -o differential && ./differential
+//!   c/library && rustc -O rust/differential.rs -L target/staticlib -l static=pinduguil -o differential && ./differential
 mod wrapper;
 use std::hint::black_box;
 use std::ptr;

@@ -1,5 +1,5 @@
 //! Loads a map, marks it, routes a packet, judges the route and moves the packet along it; then what a bad request is answered.
-//!   rt staticlib ffi && rustc -O rust/loader.rs -L target/staticlib -l static=ffi -o loader && ./loader
+//!   c/library && rustc -O rust/loader.rs -L target/staticlib -l static=pinduguil -o loader && ./loader
 mod wrapper;
 use wrapper::{Mesh, Moved, Packet, Place, MOST_HOPS};
 

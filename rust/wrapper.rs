@@ -1,5 +1,5 @@
-//! The operations of Pinduguil as safe Rust, over the static library that `rt staticlib ffi` writes. Nothing is required of a caller:
-//! what is wrong is refused by its number (include/pinduguil.h lists them).
+//! The operations of Pinduguil as safe Rust, over the static library that `c/library` writes. Nothing is required of a caller:
+//! what is wrong is refused by its number (c/pinduguil.h lists them).
 #![allow(dead_code)]
 
 /// No route has more hops: an output of this many bytes has room for every route.

@@ -1,4 +1,4 @@
-/* The operations of Pinduguil for C: link the static library that `rt staticlib ffi` writes (target/staticlib/libffi.a).
+/* The operations of Pinduguil for C: link the static library that `c/library` writes, target/staticlib/libpinduguil.a.
  *
  * Rows and columns are counted from 0; east raises the column, north the row. A map is columns * rows bytes, row 0 first:
  * 0 sound, 1 faulty. Letters are the bytes 'E', 'N', 'S' and 'W'.

@@ -1,5 +1,5 @@
 /* A bench display: marks a map, routes a packet, judges the route and moves the packet along it.
- *   rt staticlib ffi && cc -Iinclude examples/display.c target/staticlib/libffi.a -o display && ./display */
+ *   c/library && cc c/display.c target/staticlib/libpinduguil.a -o display && ./display */
 #include <stdio.h>
 
 #include "pinduguil.h"

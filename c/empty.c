@@ -1,5 +1,5 @@
 /* Empty slices as C writes them, (NULL, 0): each slice of each function.
- *   rt staticlib ffi && cc -Iinclude examples/empty.c target/staticlib/libffi.a -o empty && ./empty */
+ *   c/library && cc c/empty.c target/staticlib/libpinduguil.a -o empty && ./empty */
 #include <stdio.h>
 
 #include "pinduguil.h"
