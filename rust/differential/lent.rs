@@ -1,0 +1,121 @@
+//! What is lent to the library, between margins that no call may touch, and how it is compared afterwards.
+use crate::inputs::Case;
+use std::fmt::Debug;
+use std::hint::black_box;
+use std::ptr;
+
+const MARGIN: usize = 8;
+
+fn pattern(n: usize, seed: u32) -> Vec<u8> {
+    (0..n + 2 * MARGIN).map(|i| (i as u32).wrapping_mul(151).wrapping_add(seed) as u8).collect()
+}
+
+/// Bytes that are only read. No call may change any of them.
+pub struct Input {
+    lent: Vec<u8>,
+    before: Vec<u8>,
+}
+
+impl Input {
+    pub fn new(bytes: &[u8]) -> Input {
+        let mut lent = pattern(bytes.len(), 0);
+        lent[MARGIN..MARGIN + bytes.len()].copy_from_slice(bytes);
+        Input { before: lent.clone(), lent }
+    }
+
+    pub fn bytes(&self) -> &[u8] {
+        &self.lent[MARGIN..self.lent.len() - MARGIN]
+    }
+
+    /// The compiler may not take it for granted.
+    fn is_untouched(&self) -> bool {
+        black_box(&self.lent) == black_box(&self.before)
+    }
+}
+
+/// What the library may write to, and a copy that the plain mesh writes to. Both must hold the same afterwards, margins included.
+#[derive(Debug)]
+pub struct Output<T> {
+    lent: Vec<T>,
+    plain: Vec<T>,
+    margin: usize,
+}
+
+impl<T: Clone + PartialEq> Output<T> {
+    /// With margins of this many elements.
+    pub fn new(filled: Vec<T>, margin: usize) -> Output<T> {
+        Output { plain: filled.clone(), lent: filled, margin }
+    }
+
+    pub fn room(&mut self) -> &mut [T] {
+        let end = self.lent.len() - self.margin;
+        &mut self.lent[self.margin..end]
+    }
+
+    pub fn plain(&mut self) -> &mut [T] {
+        let end = self.plain.len() - self.margin;
+        &mut self.plain[self.margin..end]
+    }
+}
+
+/// So many bytes of a pattern.
+pub fn bytes(length: usize, seed: u32) -> Output<u8> {
+    Output::new(pattern(length, seed), MARGIN)
+}
+
+/// A slice's pointer as C has it: null where there is nothing.
+pub fn start(xs: &[u8]) -> *const u8 {
+    if xs.is_empty() { ptr::null() } else { xs.as_ptr() }
+}
+
+pub fn start_mut<T>(xs: &mut [T]) -> *mut T {
+    if xs.is_empty() { ptr::null_mut() } else { xs.as_mut_ptr() }
+}
+
+/// Prints the case and ends the test.
+pub fn differs(what: &str, case: &Case, detail: String) -> ! {
+    println!("DIFFERENCE in {what}: columns {} rows {} map {:?}", case.columns, case.rows, case.map.bytes());
+    println!("{detail}");
+    std::process::exit(1)
+}
+
+/// What was compared.
+#[derive(Default)]
+pub struct Compared {
+    pub requests: u64,
+    pub inputs: u64,  // bytes
+    pub outputs: u64, // bytes
+}
+
+impl Compared {
+    /// Every other call goes as C writes it, with null for an empty slice. Null pointers are counted, for each slice of the call.
+    pub fn goes_as_c<const N: usize>(&self, lengths: [usize; N], nulls: &mut [u64; N]) -> bool {
+        let as_c = self.requests % 2 == 0;
+        for (null, n) in nulls.iter_mut().zip(lengths) {
+            *null += (as_c && n == 0) as u64;
+        }
+        as_c
+    }
+
+    /// Compares the answers of the library and of the plain mesh, what was written and what was only read.
+    pub fn request<T: Clone + PartialEq + Debug>(
+        &mut self, what: &str, case: &Case, inputs: &[&Input], output: &Output<T>, answers: [u32; 2], detail: impl Fn() -> String,
+    ) {
+        self.requests += 1;
+        self.outputs += size_of_val(&output.lent[..]) as u64;
+        if answers[0] != answers[1] || output.lent != output.plain {
+            differs(what, case, format!("{}: answer {}, expected {}\n{output:?}", detail(), answers[0], answers[1]));
+        }
+        for input in inputs {
+            self.inputs += input.lent.len() as u64;
+            if !input.is_untouched() {
+                differs(what, case, format!("{}: input {:?}\nbefore {:?}", detail(), input.lent, input.before));
+            }
+        }
+    }
+}
+
+/// Whether each of these answers, or of these null pointers, was met.
+pub fn met(counts: &[u64], these: impl IntoIterator<Item = usize>) -> bool {
+    these.into_iter().all(|i| counts[i] > 0)
+}

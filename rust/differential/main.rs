@@ -1,0 +1,92 @@
+//! The proved library against rust/plain_mesh.rs on random requests: answers, every byte of an output or a record and beside it, and that
+//! maps and letters are as they were. Prints counts; at the first difference it prints the case and exits with status 1. Each operation has
+//! a file of its own.
+//!   c/library && rustc -O rust/differential/main.rs -L target/staticlib -l static=pinduguil -o differential && ./differential
+mod inputs;
+mod judging;
+mod lent;
+mod marking;
+mod moving;
+#[path = "../plain_mesh.rs"]
+mod plain_mesh;
+mod random;
+mod routing;
+#[path = "../wrapper.rs"]
+mod wrapper;
+use inputs::{coordinate, place, Case};
+use random::Random;
+
+#[derive(Default)]
+struct Tests {
+    compared: lent::Compared,
+    marking: marking::Marking,
+    routing: routing::Routing,
+    judging: judging::Judging,
+    moving: moving::Moving,
+}
+
+impl Tests {
+    /// Each operation on a map, in so many turns.
+    fn check(&mut self, rng: &mut Random, case: &Case, turns: usize) {
+        let compared = &mut self.compared;
+        self.marking.check(rng, case, compared);
+        for _ in 0..turns {
+            let (s, d) = (place(rng, case), place(rng, case));
+            self.routing.check(rng, case, s, d, compared);
+            self.judging.check(rng, case, s, d, compared);
+            self.moving.check(rng, case, s, d, compared);
+            if rng.one_in(12) {
+                self.moving.check_list(case, s, d, compared);
+            }
+            let d = if rng.one_in(3) { s } else { (s.0, d.1) };
+            self.routing.check(rng, case, s, d, compared);
+        }
+    }
+
+    /// Routes from the west edge to the east.
+    fn check_long(&mut self, rng: &mut Random, case: &Case) {
+        let (s, d) = (coordinate(rng, 64), coordinate(rng, 64));
+        self.routing.check(rng, case, (s, 0), (d, 62), &mut self.compared);
+        self.routing.check(rng, case, (s, 0), (s, 63), &mut self.compared);
+    }
+
+    /// Prints counts, and says whether every answer and every null pointer was met.
+    fn report(&self) -> bool {
+        let lent::Compared { inputs, outputs, .. } = self.compared;
+        println!("{outputs} bytes of outputs and {inputs} of inputs compared");
+        [self.marking.report(), self.routing.report(), self.judging.report(), self.moving.report()].iter().all(|&met| met)
+    }
+}
+
+fn main() {
+    let mut rng = Random(20_031_101);
+    let mut tests = Tests::default();
+    for columns in 1..=64 {
+        for rows in 1..=64 {
+            let case = Case::random(&mut rng, columns, rows);
+            tests.check(&mut rng, &case, 1);
+        }
+    }
+    let sizes = tests.compared.requests;
+    for _ in 0..300 {
+        let case = Case::random(&mut rng, 64, 64);
+        tests.check(&mut rng, &case, 4);
+    }
+    for _ in 0..100 {
+        let case = Case::bars(&mut rng);
+        tests.check_long(&mut rng, &case);
+    }
+    let largest = tests.compared.requests - sizes;
+    // small ones, where blocks, rings and edges are close together
+    while tests.compared.requests < 4_000_000 {
+        let (columns, rows) = (1 + rng.below(15), 1 + rng.below(11));
+        let case = Case::random(&mut rng, columns, rows);
+        tests.check(&mut rng, &case, 8);
+    }
+    let all = tests.compared.requests;
+    println!("{all} requests, no difference: {sizes} over every size, {largest} on 64 x 64, the others on small meshes");
+    if !tests.report() {
+        println!("an answer or a null pointer was never met");
+        std::process::exit(1);
+    }
+}

@@ -1,0 +1,93 @@
+//! Route.
+use crate::inputs::Case;
+use crate::lent::{self, differs, met, start, start_mut, Compared};
+use crate::plain_mesh::{self, after, node, Node, Place, REFUSED};
+use crate::random::Random;
+use crate::wrapper::raw::{self, library};
+use crate::wrapper::MOST_HOPS;
+
+#[derive(Default)]
+pub struct Routing {
+    answers: [u64; 11], // by refusal; 0 answered
+    nulls: [u64; 2],    // map, output
+    hops: u64,
+    longest: usize,
+}
+
+fn is_on_ring(case: &Case, (r, c): Node) -> bool {
+    case.blocks.iter().any(|b| {
+        let inside = b[0] <= r && r <= b[1] && b[2] <= c && c <= b[3];
+        !inside && b[0] - 1 <= r && r <= b[1] + 1 && b[2] - 2 <= c && c <= b[3] + 2
+    })
+}
+
+/// The letters of a route, or its refusal, in another way than the plain mesh finds them: 8 ring by ring, and 9 by walking the hops, each of
+/// which is tested.
+pub fn walk(case: &Case, source: Place, destination: Place) -> Result<Vec<u8>, u32> {
+    let mesh = case.mesh.as_ref().map_err(|why| *why)?;
+    mesh.check_places(source, destination)?;
+    let (mut at, to) = (node(source), node(destination));
+    if is_on_ring(case, to) {
+        return Err(8);
+    }
+    let (mut last, mut letters) = (0, vec![]);
+    while at != to {
+        let h = mesh.hop(at, last, to);
+        if !mesh.is_lawful(at, last, h) {
+            assert!(mesh.is_shut_in(node(source), to), "an unlawful hop without the condition of refusal 9");
+            return Err(9);
+        }
+        letters.push(h);
+        at = after(at, h);
+        last = h;
+        assert!(letters.len() < 100_000, "the hops do not end");
+    }
+    Ok(letters)
+}
+
+impl Routing {
+    pub fn check(&mut self, rng: &mut Random, case: &Case, s: Place, d: Place, compared: &mut Compared) {
+        let walked = walk(case, s, d);
+        let n = walked.as_ref().map_or(0, Vec::len);
+        let length = match rng.below(6) {
+            0 => rng.below(24),
+            1 => n.saturating_sub(1),
+            2 => n,
+            3 => n + 1,
+            4 if rng.one_in(50) => MOST_HOPS - 1 + rng.below(3),
+            _ => n + rng.below(40),
+        };
+        let mut out = lent::bytes(length, rng.next());
+        let expected = plain_mesh::route(&case.mesh, s, d, out.plain());
+        let answered = match &walked {
+            Err(why) => REFUSED + why,
+            Ok(_) if length < n => REFUSED + 10,
+            Ok(letters) if out.plain()[..n] == letters[..] => n as u32,
+            Ok(_) => REFUSED,
+        };
+        if expected != answered {
+            differs("plain route", case, format!("source {s:?} destination {d:?} output length {length}: answer {expected}, walked {walked:?}"));
+        }
+        let (columns, rows, map) = (case.columns, case.rows, case.map.bytes());
+        let room = out.room();
+        let answer = if compared.goes_as_c([map.len(), length], &mut self.nulls) {
+            unsafe { library::pinduguil_route(columns, rows, start(map), map.len(), s.0, s.1, d.0, d.1, start_mut(room), length) }
+        } else {
+            raw::route(columns, rows, map, s, d, room)
+        };
+        let detail = || format!("source {s:?} destination {d:?} output length {length}");
+        compared.request("route", case, &[&case.map], &out, [answer, expected], detail);
+        self.answers[answer.saturating_sub(REFUSED) as usize] += 1;
+        if answer < REFUSED {
+            self.hops += n as u64;
+            self.longest = self.longest.max(n);
+        }
+    }
+
+    /// Prints counts, and says whether every answer and every null pointer was met.
+    pub fn report(&self) -> bool {
+        println!("route: answered, refusals 1 to 10: {:?}; null for map, output: {:?}", self.answers, self.nulls);
+        println!("    {} hops, {} in the longest", self.hops, self.longest);
+        met(&self.answers, 0..11) && met(&self.nulls, 0..2)
+    }
+}

@@ -1,0 +1,354 @@
+//! The operations of document 01 in plain Rust: std only, written the direct way from the paper, apart from the proved code. The
+//! differential test compares the library with it, and speed is measured against it.
+//! There is a section for each operation. `mark`, `route`, `judge` and `move_on` answer and write as the functions of c/pinduguil.h do, on
+//! a map that `Mesh::new` has checked and marked, or refused.
+#![allow(dead_code)]
+
+/// An answer that is this or more is this plus the number of a refusal.
+pub const REFUSED: u32 = 65_536;
+
+/// A row and a column as a caller gives them.
+pub type Place = (u32, u32);
+
+/// A row and a column on the mesh or beside it.
+pub type Node = (i32, i32);
+
+/// A map with its blocks marked, or its refusal, 1 to 5.
+pub type Checked = Result<Mesh, u32>;
+
+pub fn node(place: Place) -> Node {
+    (place.0 as i32, place.1 as i32)
+}
+
+/// The number that an operation answers, or the refusal of the map or of the request.
+fn answer(mesh: &Checked, operation: impl FnOnce(&Mesh) -> Result<u32, u32>) -> u32 {
+    mesh.as_ref().map_err(|why| *why).and_then(operation).unwrap_or_else(|why| REFUSED + why)
+}
+
+// ---- Maps and their marks
+
+/// A mesh with a mark for each node, row 0 first: 0 safe, 1 faulty, 2 unsafe.
+pub struct Mesh {
+    columns: i32,
+    rows: i32,
+    marks: Vec<u8>,
+    /// how many rounds the marking took; the last one changed nothing
+    pub rounds: u32,
+}
+
+/// Refusals 1 to 5.
+pub fn check_map(columns: u32, rows: u32, map: &[u8]) -> Result<(), u32> {
+    if !(1..=64).contains(&columns) {
+        return Err(1);
+    }
+    if !(1..=64).contains(&rows) {
+        return Err(2);
+    }
+    let (columns, rows) = (columns as usize, rows as usize);
+    if map.len() != columns * rows {
+        return Err(3);
+    }
+    if map.iter().any(|&x| x > 1) {
+        return Err(4);
+    }
+    for (r, row) in map.chunks(columns).enumerate() {
+        for (c, &x) in row.iter().enumerate() {
+            if x != 0 && !(r >= 1 && r + 1 < rows && c >= 2 && c + 2 < columns) {
+                return Err(5);
+            }
+        }
+    }
+    Ok(())
+}
+
+impl Mesh {
+    pub fn new(columns: u32, rows: u32, map: &[u8]) -> Checked {
+        check_map(columns, rows, map)?;
+        let mut mesh = Mesh { columns: columns as i32, rows: rows as i32, marks: map.to_vec(), rounds: 1 };
+        while mesh.round() {
+            mesh.rounds += 1;
+        }
+        Ok(mesh)
+    }
+
+    /// One round of the marking, all nodes at once; says whether it changed anything.
+    fn round(&mut self) -> bool {
+        let mut next = self.marks.clone();
+        for r in 0..self.rows {
+            for c in 0..self.columns {
+                let i = self.index(r, c);
+                if self.marks[i] == 0 && self.turns_unsafe(r, c) {
+                    next[i] = 2;
+                }
+            }
+        }
+        let changed = next != self.marks;
+        self.marks = next;
+        changed
+    }
+
+    fn turns_unsafe(&self, r: i32, c: i32) -> bool {
+        if self.is_bad((r + 1, c)) || self.is_bad((r - 1, c)) {
+            self.is_bad((r, c + 1)) || self.is_bad((r, c - 1)) || self.is_bad((r, c + 2)) || self.is_bad((r, c - 2))
+        } else {
+            self.is_bad((r, c + 1)) && self.is_bad((r, c - 1))
+        }
+    }
+
+    /// The mark of a node, if it is on the mesh.
+    fn mark(&self, (r, c): Node) -> Option<u8> {
+        if r >= 0 && c >= 0 && r < self.rows && c < self.columns {
+            Some(self.marks[self.index(r, c)])
+        } else {
+            None
+        }
+    }
+
+    fn is_bad(&self, at: Node) -> bool {
+        self.mark(at).is_some_and(|x| x != 0)
+    }
+
+    fn index(&self, r: i32, c: i32) -> usize {
+        (r * self.columns + c) as usize
+    }
+
+    pub fn marks(&self) -> &[u8] {
+        &self.marks
+    }
+}
+
+// ---- Mark blocks
+
+pub fn mark(mesh: &Checked, out: &mut [u8]) -> u32 {
+    answer(mesh, |mesh| {
+        let out = out.get_mut(..mesh.marks.len()).ok_or(10u32)?;
+        out.copy_from_slice(&mesh.marks);
+        Ok(mesh.blocks().len() as u32)
+    })
+}
+
+/// A block: its first and last row, its first and last column.
+pub type Block = [i32; 4];
+
+impl Mesh {
+    /// From each bad node that is in none yet: as far north and as far east as nodes are bad. A block is a rectangle.
+    pub fn blocks(&self) -> Vec<Block> {
+        let mut left = self.marks.clone();
+        let mut blocks = vec![];
+        for i in 0..left.len() {
+            if left[i] == 0 {
+                continue;
+            }
+            let (r, c) = (i as i32 / self.columns, i as i32 % self.columns);
+            let north = (r..self.rows).take_while(|&r| self.is_bad((r, c))).last().unwrap_or(r);
+            let east = (c..self.columns).take_while(|&c| self.is_bad((r, c))).last().unwrap_or(c);
+            for r in r..=north {
+                left[self.index(r, c)..=self.index(r, east)].fill(0);
+            }
+            blocks.push([r, north, c, east]);
+        }
+        blocks
+    }
+}
+
+// ---- Requests
+
+impl Mesh {
+    /// Refusals 6 and 7.
+    pub fn check_places(&self, source: Place, destination: Place) -> Result<(), u32> {
+        let places = [source, destination];
+        if places.iter().any(|p| p.0 >= self.rows as u32 || p.1 >= self.columns as u32) {
+            return Err(6);
+        }
+        if places.iter().any(|&p| self.is_bad(node(p))) {
+            return Err(7);
+        }
+        Ok(())
+    }
+
+    /// Refusals 6 to 8.
+    fn check_request(&self, source: Place, destination: Place) -> Result<(), u32> {
+        self.check_places(source, destination)?;
+        if self.is_near_block(node(destination)) {
+            return Err(8);
+        }
+        Ok(())
+    }
+
+    /// Whether a node is in a block or on a ring.
+    fn is_near_block(&self, (r, c): Node) -> bool {
+        (r - 1..=r + 1).any(|r| (c - 2..=c + 2).any(|c| self.is_bad((r, c))))
+    }
+}
+
+// ---- Hops, by their letters; 0 is no last hop
+
+/// The node after a hop.
+pub fn after((r, c): Node, h: u8) -> Node {
+    match h {
+        b'E' => (r, c + 1),
+        b'N' => (r + 1, c),
+        b'S' => (r - 1, c),
+        _ => (r, c - 1),
+    }
+}
+
+fn reverses(last: u8, h: u8) -> bool {
+    matches!((last, h), (b'E', b'W') | (b'W', b'E') | (b'N', b'S') | (b'S', b'N'))
+}
+
+/// Whether a turn is forbidden in column c.
+fn is_forbidden(last: u8, h: u8, c: i32) -> bool {
+    match (last, h) {
+        (b'E', b'N' | b'S') => c % 2 == 0,
+        (b'N' | b'S', b'W') => c % 2 == 1,
+        _ => false,
+    }
+}
+
+impl Mesh {
+    pub fn is_lawful(&self, at: Node, last: u8, h: u8) -> bool {
+        self.mark(after(at, h)) == Some(0) && !reverses(last, h) && !is_forbidden(last, h, at.1)
+    }
+
+    /// The hop rules 2 to 6.
+    pub fn hop(&self, (r, c): Node, last: u8, (to_r, to_c): Node) -> u8 {
+        let (side, step) = if to_c > c { (b'E', 1) } else { (b'W', -1) };
+        // odd columns for a packet going east, even ones for a packet going west
+        let is_own = |side: u8| if side == b'E' { c % 2 == 1 } else { c % 2 == 0 };
+        let is_stopped = || self.is_bad((r, c + step)) || (is_own(side) && self.is_bad((r, c + 2 * step)));
+        if r == to_r {
+            if !is_stopped() {
+                return side;
+            }
+            return if last == b'S' { b'S' } else { b'N' };
+        }
+        let (toward, up) = if r < to_r { (b'N', 1) } else { (b'S', -1) };
+        match last {
+            b'N' | b'S' if last == toward => {
+                if self.is_bad((r + up, c)) {
+                    b'W'
+                } else {
+                    last
+                }
+            }
+            b'N' | b'S' => {
+                if is_stopped() {
+                    last
+                } else {
+                    side
+                }
+            }
+            _ => {
+                let on = if last == b'E' { b'E' } else { b'W' };
+                if is_own(on) && !self.is_bad((r + up, c)) {
+                    toward
+                } else {
+                    on
+                }
+            }
+        }
+    }
+}
+
+// ---- Route
+
+pub fn route(mesh: &Checked, source: Place, destination: Place, out: &mut [u8]) -> u32 {
+    answer(mesh, |mesh| {
+        let mut letters = vec![];
+        mesh.route(source, destination, &mut letters)?;
+        let out = out.get_mut(..letters.len()).ok_or(10u32)?;
+        out.copy_from_slice(&letters);
+        Ok(letters.len() as u32)
+    })
+}
+
+impl Mesh {
+    /// The condition that refusal 9 comes to.
+    pub fn is_shut_in(&self, (r, c): Node, (to_r, to_c): Node) -> bool {
+        c % 2 == 1 && self.is_bad((r, c - 1)) && (r != to_r || to_c < c)
+    }
+
+    /// The letters of a route, or its refusal, 6 to 9.
+    pub fn route(&self, source: Place, destination: Place, letters: &mut Vec<u8>) -> Result<(), u32> {
+        letters.clear();
+        self.check_request(source, destination)?;
+        let (mut at, to) = (node(source), node(destination));
+        if self.is_shut_in(at, to) {
+            return Err(9);
+        }
+        let mut last = 0;
+        while at != to {
+            last = self.hop(at, last, to);
+            letters.push(last);
+            at = after(at, last);
+        }
+        Ok(())
+    }
+}
+
+// ---- Judge a hand-in
+
+pub fn judge(mesh: &Checked, source: Place, destination: Place, letters: &[u8], index: &mut [u64]) -> u32 {
+    let (answer, i) = match mesh {
+        Ok(mesh) => mesh.judge(source, destination, letters),
+        Err(why) => (*why, 0),
+    };
+    if let Some(first) = index.first_mut() {
+        *first = i as u64;
+    }
+    answer
+}
+
+impl Mesh {
+    /// 0 passed or what is wrong, and the length or the index.
+    fn judge(&self, source: Place, destination: Place, letters: &[u8]) -> (u32, usize) {
+        if let Err(why) = self.check_places(source, destination) {
+            return (why, 0);
+        }
+        let (mut at, mut last) = (node(source), 0);
+        for (i, &h) in letters.iter().enumerate() {
+            if !matches!(h, b'E' | b'N' | b'S' | b'W') {
+                return (11, i);
+            }
+            let next = after(at, h);
+            let Some(mark) = self.mark(next) else { return (12, i) };
+            if reverses(last, h) {
+                return (13, i);
+            }
+            if is_forbidden(last, h, at.1) {
+                return (14, i);
+            }
+            if mark != 0 {
+                return (15, i);
+            }
+            (at, last) = (next, h);
+        }
+        (if at == node(destination) { 0 } else { 16 }, letters.len())
+    }
+}
+
+// ---- Move on
+
+/// Last hops by their numbers.
+const LAST: [u8; 5] = [0, b'E', b'N', b'S', b'W'];
+
+pub fn move_on(mesh: &Checked, packet: &mut [u32]) -> u32 {
+    let [row, column, last @ 0..=4, to_row, to_column] = *packet else { return REFUSED };
+    let (place, destination, last) = ((row, column), (to_row, to_column), LAST[last as usize]);
+    answer(mesh, |mesh| {
+        mesh.check_request(place, destination)?;
+        if place == destination {
+            return Ok(0);
+        }
+        let at = node(place);
+        let h = mesh.hop(at, last, node(destination));
+        if !mesh.is_lawful(at, last, h) {
+            return Err(9);
+        }
+        let (r, c) = after(at, h);
+        let last = LAST.iter().position(|&x| x == h).unwrap_or(0);
+        packet[..3].copy_from_slice(&[r as u32, c as u32, last as u32]);
+        Ok(h as u32)
+    })
+}
