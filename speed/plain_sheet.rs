@@ -1,4 +1,5 @@
 // The sheet program in plain Rust, for comparing speed: std only, written the direct way.
+#[path = "../rust/plain_mesh.rs"]
 mod plain_mesh;
 use plain_mesh::{check_map, Mesh};
 use std::io::{Read, Write};
@@ -26,7 +27,7 @@ fn numbers(text: &[u8], n: usize) -> Option<Vec<u32>> {
 fn begin(columns: u32, rows: u32, map: &[u8], out: &mut Vec<u8>) -> Option<Mesh> {
     match Mesh::new(columns, rows, map) {
         Ok(mesh) => {
-            writeln!(out, "blocks {}", mesh.blocks()).unwrap();
+            writeln!(out, "blocks {}", mesh.blocks().len()).unwrap();
             Some(mesh)
         }
         Err(k) => {

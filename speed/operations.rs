@@ -1,17 +1,18 @@
-//! The operations on 64 x 64, the proved library against bench/plain_mesh.rs. A case is a list of calls; each checks and marks its map.
+//! The operations on 64 x 64, the proved library against rust/plain_mesh.rs. A case is a list of calls; each checks and marks its map.
 //!   operations CASE                   compares answers and output bytes; prints what was done, and then in one line the units of work in
 //!                                     the list and its nanoseconds, each call at its best, proved and plain
 //!   operations CASE proved|plain N    makes the first N calls and prints nothing, for counting instructions
-//! Cases: most-rounds, dense, judging, judging-nothing, one-map, many-maps, moving. `bench/run` builds it and shows its figures.
+//! Cases: most-rounds, dense, judging, judging-nothing, one-map, many-maps, moving. `speed/run` builds it and shows its figures.
+#[path = "../rust/plain_mesh.rs"]
+mod plain_mesh;
 #[path = "../rust/wrapper.rs"]
 mod wrapper;
-mod plain_mesh;
+use plain_mesh::{Checked, REFUSED};
 use std::hint::black_box;
 use std::time::{Duration, Instant};
 use wrapper::raw;
 
 const NODES: usize = 4096;
-const REFUSED: u32 = 65_536;
 
 type Trip = [(u32, u32); 2]; // source, destination
 
@@ -54,8 +55,9 @@ impl Case {
     }
 }
 
-fn number(answer: Result<u32, u32>) -> u32 {
-    answer.unwrap_or_else(|why| REFUSED + why)
+/// The plain mesh of a map.
+fn plain(case: &Case, map: &[u8]) -> Checked {
+    plain_mesh::Mesh::new(case.side, case.side, map)
 }
 
 fn proved_mark(case: &Case, lent: &mut Lent) -> u32 {
@@ -63,7 +65,7 @@ fn proved_mark(case: &Case, lent: &mut Lent) -> u32 {
 }
 
 fn plain_mark(case: &Case, lent: &mut Lent) -> u32 {
-    number(plain_mesh::mark_blocks(case.side, case.side, case.map(), &mut lent.out))
+    plain_mesh::mark(&plain(case, case.map()), &mut lent.out)
 }
 
 fn proved_judge(case: &Case, lent: &mut Lent) -> u32 {
@@ -73,9 +75,7 @@ fn proved_judge(case: &Case, lent: &mut Lent) -> u32 {
 
 fn plain_judge(case: &Case, lent: &mut Lent) -> u32 {
     let [s, d] = case.trips[0];
-    let (answer, index) = plain_mesh::judge(case.side, case.side, case.map(), s, d, &case.letters);
-    lent.index = [index];
-    answer
+    plain_mesh::judge(&plain(case, case.map()), s, d, &case.letters, &mut lent.index)
 }
 
 fn proved_route(case: &Case, lent: &mut Lent) -> u32 {
@@ -85,7 +85,7 @@ fn proved_route(case: &Case, lent: &mut Lent) -> u32 {
 
 fn plain_route(case: &Case, lent: &mut Lent) -> u32 {
     let (map, [s, d]) = case.begin(lent);
-    number(plain_mesh::route(case.side, case.side, map, s, d, &mut lent.out))
+    plain_mesh::route(&plain(case, map), s, d, &mut lent.out)
 }
 
 /// Moves a packet by one hop, a fresh one if the last has arrived.
@@ -104,7 +104,7 @@ fn proved_move(case: &Case, lent: &mut Lent) -> u32 {
 }
 
 fn plain_move(case: &Case, lent: &mut Lent) -> u32 {
-    move_by(case, lent, |map, packet| number(plain_mesh::move_on(case.side, case.side, map, packet)))
+    move_by(case, lent, |map, packet| plain_mesh::move_on(&plain(case, map), packet))
 }
 
 fn at(row: usize, column: usize) -> usize {
@@ -255,7 +255,7 @@ fn compare(name: &str, case: &Case) -> (String, u64) {
             calls as u64,
         ),
         _ => {
-            let rounds = plain_mesh::Mesh::new(case.side, case.side, case.map()).unwrap().rounds;
+            let rounds = plain(case, case.map()).unwrap().rounds;
             (format!("marking, {name}: {faults} faults, {rounds} rounds, outputs equal"), rounds as u64 * NODES as u64)
         }
     }

@@ -1,4 +1,4 @@
-//! The sheet program in plain Rust, written for speed: std only, 64 nodes to a word (bench/fast_mesh.rs), lines read and printed by hand.
+//! The sheet program in plain Rust, written for speed: std only, 64 nodes to a word (speed/fast_mesh.rs), lines read and printed by hand.
 mod fast_mesh;
 use fast_mesh::Mesh;
 use std::io::{Read, Write};
