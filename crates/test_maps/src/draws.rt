@@ -1,15 +1,14 @@
 // Random maps and requests, the same ones in each run: a number is drawn by a seed and by its place among those of the seed.
 use std::num::wrapping_add_u8;
 use std::num::wrapping_add_u32;
-use test_router::hops::Trip;
-use test_router::routes::Size;
+use test_router::answers::Size;
+use test_router::trips::Trip;
 
-// A mesh with so many runs of faults, of so many nodes at most; or any up to it.
+// A mesh in which one of so many stretches of nodes is faulty: stretches of this length in columns, and again in rows.
 pub struct Shape {
     pub size: Size,
-    pub runs: u8,
-    pub longest: u8,
-    pub is_most: bool,
+    pub stretch: u8,
+    pub one_in: u8,
 }
 
 fn mix(x: u32) -> u32 {
@@ -26,24 +25,23 @@ pub fn draw(seed: u32, k: u32, n: u8) -> u8 {
     (x / 65536 % (n as u32) % 256) as u8
 }
 
-// Number k of a seed, from 1 to n.
-fn draw_size(seed: u32, k: u32, n: u8) -> u8 {
-    wrapping_add_u8(draw(seed, k, n), 1)
+// Number k of a seed: one of n from `low` up.
+fn draw_from(seed: u32, k: u32, low: u8, n: u8) -> u8 {
+    wrapping_add_u8(low, draw(seed, k, n))
 }
 
-pub fn draw_shape(seed: u32, most: Shape) -> Shape {
-    if !most.is_most {
-        return most;
+// This shape, or if it has no columns a small one, from one node on.
+pub fn draw_shape(seed: u32, shape: Shape) -> Shape {
+    if shape.size.columns != 0 {
+        return shape;
     }
-    let size = most.size;
     Shape {
         size: Size {
-            columns: draw_size(seed, 2000, size.columns),
-            rows: draw_size(seed, 2001, size.rows),
+            columns: draw_from(seed, 10000, 1, 18),
+            rows: draw_from(seed, 10001, 1, 14),
         },
-        runs: draw(seed, 2002, most.runs),
-        longest: draw(seed, 2003, most.longest),
-        is_most: false,
+        stretch: draw_from(seed, 10002, 1, 5),
+        one_in: draw_from(seed, 10003, 3, 50),
     }
 }
 
@@ -64,59 +62,61 @@ pub fn draw_trip(seed: u32, size: Size) -> Trip {
     }
 }
 
-// The index of a node.
-pub fn index(columns: u8, row: u8, column: u8) -> usize {
-    (row as usize) * (columns as usize) + (column as usize)
+// How many nodes a mesh has.
+pub fn count_nodes(columns: u8, rows: u8) -> usize {
+    (columns as usize) * (rows as usize)
 }
 
-fn is_allowed(size: Size, row: u8, column: u8) -> bool {
+fn is_allowed(size: Size, row: u32, column: u32) -> bool {
     if row == 0 {
         return false;
     }
     if column < 2 {
         return false;
     }
-    if (size.rows as u32) < (row as u32) + 2 {
+    if (size.rows as u32) <= wrapping_add_u32(row, 1) {
         return false;
     }
-    (column as u32) + 3 <= (size.columns as u32)
+    wrapping_add_u32(column, 2) < (size.columns as u32)
 }
 
-// Sets a fault where one is allowed.
-fn set_fault(size: Size, map: &mut [u8], row: u8, column: u8) {
-    if is_allowed(size, row, column) {
-        let i = index(size.columns, row, column);
-        if i < map.len() {
-            map[i] = 1;
-        }
+// Whether the stretch of a node along a column, or a row, is faulty: numbers along that and across it.
+fn is_hit(shape: Shape, seed: u32, along: u32, across: u32) -> bool {
+    if shape.stretch == 0 {
+        return false;
     }
+    let k = along / (shape.stretch as u32);
+    draw(seed, wrapping_add_u32(k % 64 * 64, across), shape.one_in) == 0
 }
 
-// Sets node `step` of a run that begins at its numbers k + 1 and k + 2, north or east.
-fn set_step(size: Size, map: &mut [u8], seed: u32, k: u32, step: u8) {
-    let row = draw(seed, k, size.rows);
-    let column = draw(seed, wrapping_add_u32(k, 1), size.columns);
-    if draw(seed, wrapping_add_u32(k, 2), 2) == 0 {
-        set_fault(size, map, wrapping_add_u8(row, step), column);
-        return;
+// Whether node i is faulty.
+fn is_fault(shape: Shape, seed: u32, i: u32) -> bool {
+    let n = shape.size.columns as u32;
+    if n == 0 {
+        return false;
     }
-    set_fault(size, map, row, wrapping_add_u8(column, step));
+    let row = i / n;
+    let column = i % n;
+    if !is_allowed(shape.size, row, column) {
+        return false;
+    }
+    if is_hit(shape, seed, row, column) {
+        return true;
+    }
+    is_hit(shape, wrapping_add_u32(seed, 31), column, row)
 }
 
-// Sets node i % 64 of run i / 64, if the run is that long.
 fn set_node(shape: Shape, map: &mut [u8], seed: u32, i: u32) {
-    let k = i / 64 * 4;
-    let step = (i % 64) as u8;
-    if step <= draw(seed, k, shape.longest) {
-        set_step(shape.size, map, seed, k + 1, step);
+    let k = i as usize;
+    if k < map.len() {
+        map[k] = is_fault(shape, seed, i) as u8;
     }
 }
 
-// Draws the faults of a map: runs of them, north or east.
+// Draws the faults of a map.
 pub fn draw_faults(shape: Shape, map: &mut [u8], seed: u32) {
-    let end = (shape.runs as u32) * 64;
     let mut i: u32 = 0;
-    while i < end {
+    while i < 4096 {
         set_node(shape, map, seed, i);
         i += 1;
     }

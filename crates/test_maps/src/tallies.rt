@@ -6,16 +6,13 @@ use std::num::wrapping_add_u64;
 pub fn count(tallies: &mut [u64; 32], k: usize, held: bool) {
     let i = k % 16;
     tallies[i] = wrapping_add_u64(tallies[i], 1);
-    if held {
-        tallies[16 + i] = wrapping_add_u64(tallies[16 + i], 1);
-    }
+    tallies[16 + i] = wrapping_add_u64(tallies[16 + i], held as u64);
 }
 
 // Prints what thing k is, how often it held and how often it was tried.
 pub fn print(what: &[u8], tallies: &[u64; 32], k: usize) {
     let i = k % 16;
     io::write_all(STDOUT_FILENO, what);
-    io::write_all(STDOUT_FILENO, b" ");
     io::print_decimal(STDOUT_FILENO, tallies[16 + i]);
     io::write_all(STDOUT_FILENO, b" of ");
     io::print_decimal(STDOUT_FILENO, tallies[i]);

@@ -1,10 +1,10 @@
 // One map after another: its marks and blocks, and requests on it.
 use crate::draws::Shape;
+use crate::draws::count_nodes;
 use crate::draws::draw;
 use crate::draws::draw_faults;
 use crate::draws::draw_shape;
 use crate::draws::draw_trip;
-use crate::draws::index;
 use crate::tallies::count;
 use marking::mark_blocks;
 use mesh::Place;
@@ -13,41 +13,34 @@ use numbers::place_of;
 use numbers::routed_code;
 use routing::route;
 use std::num::wrapping_add_u32;
-use test_router::boxes::find_boxes;
-use test_router::boxes::mark_boxes;
-use test_router::hops::Trip;
-use test_router::routes::Answer;
-use test_router::routes::Size;
-use test_router::routes::answer_route;
-use test_router::routes::bound;
+use test_router::answers::Size;
+use test_router::answers::answer_route;
+use test_router::answers::bound;
+use test_router::areas::find_boxes;
+use test_router::areas::mark_boxes;
+use test_router::trips::Trip;
 
 // Whether an output holds the first n of these bytes, and 7 in each later place, as it did before.
 fn holds(out: &[u8; 4096], bytes: &[u8; 4096], n: usize) -> bool {
     let mut i = 0;
     while i < 4096 {
-        let x = out[i];
+        let mut x = 7;
         if i < n {
-            if x != bytes[i] {
-                return false;
-            }
-        } else {
-            if x != 7 {
-                return false;
-            }
+            x = bytes[i];
+        }
+        if out[i] != x {
+            return false;
         }
         i += 1;
     }
     true
 }
 
-fn mark(size: Size, map: &[u8], out: &mut [u8]) -> u32 {
-    marked_code(mark_blocks(size.columns as u32, size.rows as u32, map, out))
-}
-
 // Whether marking answers n and writes these marks.
 fn marks(size: Size, map: &[u8], n: usize, marked: &[u8; 4096]) -> bool {
     let mut out = [7u8; 4096];
-    if mark(size, map, &mut out) as usize != n {
+    let answer = mark_blocks(size.columns as u32, size.rows as u32, map, &mut out);
+    if marked_code(answer) as usize != n {
         return false;
     }
     holds(&out, marked, map.len())
@@ -63,24 +56,24 @@ fn send(size: Size, map: &[u8], t: Trip, out: &mut [u8]) -> u32 {
     routed_code(route(size.columns as u32, size.rows as u32, map, s, d, out))
 }
 
-// The answer as routing gives it.
-fn code(x: Answer) -> u32 {
-    if x.refusal == 0 {
-        return (x.hops % 65536) as u32;
+// How many letters an answer of routing stands for: none if it is a refusal.
+fn count_letters(x: u32) -> usize {
+    if x < 65536 {
+        return x as usize;
     }
-    65536 + (x.refusal as u32)
+    0
 }
 
-// Whether routing answers so, and writes these letters and nothing else.
-fn routes(size: Size, map: &[u8], t: Trip, room: usize, x: Answer, letters: &[u8; 4096]) -> bool {
+// Whether routing answers x, and writes as many of these letters and nothing else.
+fn routes(size: Size, map: &[u8], t: Trip, room: usize, x: u32, letters: &[u8; 4096]) -> bool {
     if 4096 < room {
         return false;
     }
     let mut out = [7u8; 4096];
-    if send(size, map, t, &mut out[0..room]) != code(x) {
+    if send(size, map, t, &mut out[0..room]) != x {
         return false;
     }
-    holds(&out, letters, x.hops)
+    holds(&out, letters, count_letters(x))
 }
 
 // Mostly room for every letter.
@@ -89,6 +82,15 @@ fn draw_room(seed: u32) -> usize {
         return draw(seed, 5, 20) as usize;
     }
     4096
+}
+
+// Counts an answer of routing: thing 0 if it is served, else the refusal's number.
+fn count_answer(tallies: &mut [u64; 32], x: u32, held: bool) {
+    if x < 65536 {
+        count(tallies, 0, held);
+        return;
+    }
+    count(tallies, (x - 65536) as usize, held);
 }
 
 // A request.
@@ -104,11 +106,9 @@ fn try_send(
     let room = draw_room(seed);
     let mut letters = [0u8; 4096];
     let x = answer_route(size, list, n, t, room, &mut letters);
-    let held = routes(size, map, t, room, x, &letters);
-    count(tallies, 13, held);
-    count(tallies, x.refusal as usize, held);
-    if x.refusal == 0 {
-        count(tallies, 14, x.hops <= bound(list, n, t) as usize);
+    count_answer(tallies, x, routes(size, map, t, room, x, &letters));
+    if x < 65536 {
+        count(tallies, 12, x <= bound(list, n, t));
     }
 }
 
@@ -146,12 +146,12 @@ fn try_map(tallies: &mut [u64; 32], shape: Shape, sends: u32, seed: u32) {
     let n = find_boxes(size.columns, &map, &mut list);
     let mut marked = map;
     mark_boxes(size.columns, &mut marked, &list, n);
-    let part = start(&map, index(size.columns, size.rows, 0));
-    count(tallies, 12, marks(size, part, n, &marked));
+    let part = start(&map, count_nodes(size.columns, size.rows));
+    count(tallies, 11, marks(size, part, n, &marked));
     try_sends(tallies, size, part, &list, n, sends, seed);
 }
 
-// So many maps, with so many requests on each. A map has 32 seeds: its own, and one for each request.
+// So many maps, with so many requests on each. A map has 32 seeds: its own, one for its other stretches, and one for each request.
 pub fn try_maps(tallies: &mut [u64; 32], shape: Shape, first: u32, maps: u32, sends: u32) {
     let mut seed = first;
     let mut i: u32 = 0;

@@ -1,6 +1,6 @@
 // A router of its own, for the test program to set against the proved one: written from documents 001 and 01, it shares no code, type or
 // definition with that. Blocks are boxes that are joined, not nodes that are marked, and refusal 9 is found by walking the hops. Rows and
 // columns are bytes: south of row 0 lies row 255, which is off every mesh.
-pub mod boxes;
-pub mod hops;
-pub mod routes;
+pub mod answers;
+pub mod areas;
+pub mod trips;

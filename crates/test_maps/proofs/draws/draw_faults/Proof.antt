@@ -8,16 +8,10 @@ use Rattle.test_maps.proofs.draws.draw_faults.Statement.{statement}
 use Rattle.test_maps.proofs.draws.draw_faults.Tie as tie
 
 abbrev Inv-loop : tie.InvT-loop
-Inv-loop shape map₀ seed end i₀ map i = length map ≡ length map₀
+Inv-loop shape map₀ seed i₀ map i = length map ≡ length map₀
 
 abbrev μ-loop : tie.MeasureT-loop
-μ-loop shape map₀ seed end i₀ map i = end - i
-
-cast-end : tie.Need-cast-end Inv-loop μ-loop
-cast-end c = omega arith
-
-mul-end : tie.Need-mul-end Inv-loop μ-loop
-mul-end c = omega arith
+μ-loop shape map₀ seed i₀ map i = 4096 - i
 
 loop-holds : tie.Need-loop-holds Inv-loop μ-loop
 loop-holds c = omega arith
@@ -46,8 +40,6 @@ draw-faults-spec =
     (tie.spec
     Inv-loop
     μ-loop
-    cast-end
-    mul-end
     loop-holds
     set-node-requires
     add-i

@@ -23,9 +23,6 @@ element-copy-out-if2 c = omega arith
 returns : tie.Need-returns Inv-loop μ-loop
 returns c = search needs
 
-returns-2 : tie.Need-returns-2 Inv-loop μ-loop
-returns-2 c = search needs
-
 add-i : tie.Need-add-i Inv-loop μ-loop
 add-i c = omega arith
 
@@ -35,8 +32,8 @@ loop-less c = omega arith
 loop-again : tie.Need-loop-again Inv-loop μ-loop
 loop-again c = omega arith
 
-returns-3 : tie.Need-returns-3 Inv-loop μ-loop
-returns-3 c = search needs
+returns-2 : tie.Need-returns-2 Inv-loop μ-loop
+returns-2 c = search needs
 
 pub holds-spec : {M : Type 1} → statement M
 holds-spec =
@@ -48,8 +45,7 @@ holds-spec =
     element-copy-out-x
     element-copy-out-if2
     returns
-    returns-2
     add-i
     loop-less
     loop-again
-    returns-3)
+    returns-2)

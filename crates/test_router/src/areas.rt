@@ -1,5 +1,4 @@
 // Blocks as boxes: each fault is a box, and two boxes less than 3 apart in column and less than 2 apart in row become the one around both.
-
 use std::num::wrapping_add_usize;
 
 // A box by its lowest row, lowest column, highest row and highest column.

@@ -2,8 +2,8 @@
 use Prim.Native.Nat.{_≤_, _-_}
 use native.Mathlib.Omega.{arith}
 use borrow.Author.Needs.{needs}
-use Rattle.test_router.proofs.boxes.mark_boxes.Statement.{statement}
-use Rattle.test_router.proofs.boxes.mark_boxes.Tie as tie
+use Rattle.test_router.proofs.areas.mark_boxes.Statement.{statement}
+use Rattle.test_router.proofs.areas.mark_boxes.Tie as tie
 
 abbrev Inv-loop : tie.InvT-loop
 Inv-loop columns map₀ list n i₀ map i = i ≤ 4096

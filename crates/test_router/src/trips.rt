@@ -1,5 +1,5 @@
 // The hop rules and the turn rules, letter by letter. The last hop is a letter too, 0 if there is none.
-use crate::boxes::is_within;
+use crate::areas::is_within;
 use std::num::wrapping_add_u8;
 use std::num::wrapping_sub_u8;
 

@@ -2,8 +2,8 @@
 use Prim.Native.Nat.{_≤_}
 use native.Mathlib.Omega.{arith}
 use borrow.Author.Needs.{needs}
-use Rattle.test_router.proofs.boxes.join.Statement.{statement}
-use Rattle.test_router.proofs.boxes.join.Tie as tie
+use Rattle.test_router.proofs.areas.join.Statement.{statement}
+use Rattle.test_router.proofs.areas.join.Tie as tie
 
 abbrev Inv-loop : tie.InvT-loop
 Inv-loop list₀ n joined₀ left₀ list joined left = left ≤ n

@@ -1,12 +1,12 @@
 // What routing is to answer on a mesh whose map is not refused, and the bound on its hops.
-use crate::boxes::Area;
-use crate::boxes::area_at;
-use crate::boxes::is_within;
-use crate::hops::Trip;
-use crate::hops::after;
-use crate::hops::is_forbidden;
-use crate::hops::is_shut;
-use crate::hops::next_hop;
+use crate::areas::Area;
+use crate::areas::area_at;
+use crate::areas::is_within;
+use crate::trips::Trip;
+use crate::trips::after;
+use crate::trips::is_forbidden;
+use crate::trips::is_shut;
+use crate::trips::next_hop;
 use std::num::wrapping_add_u32;
 
 pub struct Size {
@@ -14,26 +14,8 @@ pub struct Size {
     pub rows: u8,
 }
 
-// A refusal, or 0 and the number of hops.
-pub struct Answer {
-    pub refusal: u8,
-    pub hops: usize,
-}
-
-fn refuse(why: u8) -> Answer {
-    Answer {
-        refusal: why,
-        hops: 0,
-    }
-}
-
-// A route of so many hops, with room for so many letters.
-fn arrive(hops: usize, room: usize) -> Answer {
-    if room < hops {
-        return refuse(10);
-    }
-    Answer { refusal: 0, hops }
-}
+// A refusal is answered as this and its number.
+const REFUSED: u32 = 65536;
 
 fn is_off(size: Size, row: u8, column: u8) -> bool {
     if row < size.rows {
@@ -49,12 +31,20 @@ fn is_over(t: Trip) -> bool {
     false
 }
 
-// Whether the hop that leads to the next place is unlawful.
-fn is_unlawful(size: Size, list: &[u8; 4096], n: usize, next: Trip) -> bool {
-    if is_off(size, next.row, next.column) {
+// Whether the packet is off the mesh or in a block.
+fn is_closed(size: Size, list: &[u8; 4096], n: usize, t: Trip) -> bool {
+    if is_off(size, t.row, t.column) {
         return true;
     }
-    is_shut(list, n, next)
+    is_shut(list, n, t)
+}
+
+// A route of so many hops, with room for so many letters.
+fn arrive(hops: u32, room: usize) -> u32 {
+    if room < hops as usize {
+        return REFUSED + 10;
+    }
+    hops
 }
 
 // Walks the hops by the rules and writes their letters, also if there is no room for them.
@@ -65,49 +55,50 @@ fn walk(
     trip: Trip,
     room: usize,
     letters: &mut [u8; 4096],
-) -> Answer {
+) -> u32 {
     let mut t = trip;
     let mut last: u8 = 0;
-    let mut i = 0;
+    let mut i: u32 = 0;
     while i < 4096 {
         if is_over(t) {
             return arrive(i, room);
         }
         let h = next_hop(list, n, t, last);
         if is_forbidden(t.column, last, h) {
-            return refuse(9);
+            return REFUSED + 9;
         }
         t = after(t, h);
-        if is_unlawful(size, list, n, t) {
-            return refuse(9);
+        if is_closed(size, list, n, t) {
+            return REFUSED + 9;
         }
-        letters[i] = h;
+        letters[i as usize] = h;
         last = h;
         i += 1;
     }
-    refuse(99)
+    REFUSED
 }
 
 // Refusals 6 to 8, or 0: a ring is a box grown by one row each way and two columns.
-fn refusal(size: Size, list: &[u8; 4096], n: usize, t: Trip) -> u8 {
+fn refuse(size: Size, list: &[u8; 4096], n: usize, t: Trip) -> u32 {
     if is_off(size, t.row, t.column) {
-        return 6;
+        return REFUSED + 6;
     }
     if is_off(size, t.to_row, t.to_column) {
-        return 6;
+        return REFUSED + 6;
     }
     if is_within(list, n, t.row, t.column, 0, 0) {
-        return 7;
+        return REFUSED + 7;
     }
     if is_within(list, n, t.to_row, t.to_column, 0, 0) {
-        return 7;
+        return REFUSED + 7;
     }
     if is_within(list, n, t.to_row, t.to_column, 1, 2) {
-        return 8;
+        return REFUSED + 8;
     }
     0
 }
 
+// The number of hops, or the refusal.
 pub fn answer_route(
     size: Size,
     list: &[u8; 4096],
@@ -115,10 +106,10 @@ pub fn answer_route(
     t: Trip,
     room: usize,
     letters: &mut [u8; 4096],
-) -> Answer {
-    let why = refusal(size, list, n, t);
-    if why != 0 {
-        return refuse(why);
+) -> u32 {
+    let refused = refuse(size, list, n, t);
+    if refused != 0 {
+        return refused;
     }
     walk(size, list, n, t, room, letters)
 }

@@ -2,8 +2,8 @@
 use Prim.Native.Nat.{_≤_, _-_}
 use native.Mathlib.Omega.{arith}
 use borrow.Author.Needs.{needs}
-use Rattle.test_router.proofs.routes.bound.Statement.{statement}
-use Rattle.test_router.proofs.routes.bound.Tie as tie
+use Rattle.test_router.proofs.answers.bound.Statement.{statement}
+use Rattle.test_router.proofs.answers.bound.Tie as tie
 
 abbrev Inv-loop : tie.InvT-loop
 Inv-loop list n sum₀ i₀ sum i = i ≤ n

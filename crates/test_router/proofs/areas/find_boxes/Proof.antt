@@ -2,8 +2,8 @@
 use Prim.Native.Nat.{_≤_, _-_}
 use native.Mathlib.Omega.{arith}
 use borrow.Author.Needs.{needs}
-use Rattle.test_router.proofs.boxes.find_boxes.Statement.{statement}
-use Rattle.test_router.proofs.boxes.find_boxes.Tie as tie
+use Rattle.test_router.proofs.areas.find_boxes.Statement.{statement}
+use Rattle.test_router.proofs.areas.find_boxes.Tie as tie
 
 abbrev Inv-loop : tie.InvT-loop
 Inv-loop columns map list₀ n₀ i₀ list n i = i ≤ 4096

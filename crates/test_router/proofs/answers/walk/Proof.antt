@@ -2,8 +2,8 @@
 use Prim.Native.Nat.{_≤_, _-_}
 use native.Mathlib.Omega.{arith}
 use borrow.Author.Needs.{needs}
-use Rattle.test_router.proofs.routes.walk.Statement.{statement}
-use Rattle.test_router.proofs.routes.walk.Tie as tie
+use Rattle.test_router.proofs.answers.walk.Statement.{statement}
+use Rattle.test_router.proofs.answers.walk.Tie as tie
 
 abbrev Inv-loop : tie.InvT-loop
 Inv-loop size list n room letters₀ t₀ last₀ i₀ letters t last i = i ≤ 4096
@@ -29,8 +29,8 @@ next-hop-requires c κs = search needs
 is-forbidden-requires : tie.Need-is-forbidden-requires Inv-loop μ-loop
 is-forbidden-requires c κs = search needs
 
-refuse-requires : tie.Need-refuse-requires Inv-loop μ-loop
-refuse-requires c κs = search needs
+add-result : tie.Need-add-result Inv-loop μ-loop
+add-result c = omega arith
 
 returns-2 : tie.Need-returns-2 Inv-loop μ-loop
 returns-2 c = search needs
@@ -38,14 +38,17 @@ returns-2 c = search needs
 after-requires : tie.Need-after-requires Inv-loop μ-loop
 after-requires c κs = search needs
 
-is-unlawful-requires : tie.Need-is-unlawful-requires Inv-loop μ-loop
-is-unlawful-requires c κs = search needs
+is-closed-requires : tie.Need-is-closed-requires Inv-loop μ-loop
+is-closed-requires c κs = search needs
 
-refuse-requires-2 : tie.Need-refuse-requires-2 Inv-loop μ-loop
-refuse-requires-2 c κs = search needs
+add-result-2 : tie.Need-add-result-2 Inv-loop μ-loop
+add-result-2 c = omega arith
 
 returns-3 : tie.Need-returns-3 Inv-loop μ-loop
 returns-3 c = search needs
+
+cast-letters : tie.Need-cast-letters Inv-loop μ-loop
+cast-letters c = omega arith
 
 element-write-letters : tie.Need-element-write-letters Inv-loop μ-loop
 element-write-letters c = omega arith
@@ -58,9 +61,6 @@ loop-less c = omega arith
 
 loop-again : tie.Need-loop-again Inv-loop μ-loop
 loop-again c = omega arith
-
-refuse-requires-3 : tie.Need-refuse-requires-3 Inv-loop μ-loop
-refuse-requires-3 c κs = search needs
 
 returns-4 : tie.Need-returns-4 Inv-loop μ-loop
 returns-4 c = search needs
@@ -77,15 +77,15 @@ walk-spec =
     returns
     next-hop-requires
     is-forbidden-requires
-    refuse-requires
+    add-result
     returns-2
     after-requires
-    is-unlawful-requires
-    refuse-requires-2
+    is-closed-requires
+    add-result-2
     returns-3
+    cast-letters
     element-write-letters
     add-i
     loop-less
     loop-again
-    refuse-requires-3
     returns-4)

@@ -2,8 +2,8 @@
 use Prim.Native.Nat.{_≤_, _-_}
 use native.Mathlib.Omega.{arith}
 use borrow.Author.Needs.{needs}
-use Rattle.test_router.proofs.boxes.find.Statement.{statement}
-use Rattle.test_router.proofs.boxes.find.Tie as tie
+use Rattle.test_router.proofs.areas.find.Statement.{statement}
+use Rattle.test_router.proofs.areas.find.Tie as tie
 
 abbrev Inv-loop : tie.InvT-loop
 Inv-loop list n a rows columns i₀ i = i ≤ n
