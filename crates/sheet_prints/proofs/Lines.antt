@@ -28,19 +28,28 @@ module _ {out : List ℕ} {at x : ℕ} {mid : List ℕ} where
   pub tenth-fits : (n : ℕ) → n < 100000 → Puts out at (decimal (n / 10)) x mid → x < at + 5
   tenth-fits n h p = omega (arith, p .next, decimal-few 3 (n / 10) (omega arith))
 
-  pub puts-number : (n : ℕ) {x′ : ℕ} {after : List ℕ} → 10 ≤ n → Puts out at (decimal (n / 10)) x mid → Puts mid x ((48 + n % 10) ∷ []) x′ after → Puts out at (decimal n) x′ after
+  pub puts-number : (n : ℕ) {x′ : ℕ} {after : List ℕ} → 10 ≤ n →
+      Puts out at (decimal (n / 10)) x mid → Puts mid x ((48 + n % 10) ∷ []) x′ after →
+      Puts out at (decimal n) x′ after
   puts-number n h p q = rw (decimal-more n h) (puts-append p q)
 
-  pub puts-line : (word : List ℕ) (n : ℕ) {x₁ x₂ : ℕ} {out₁ out₂ : List ℕ} → Puts out at word x mid → Puts mid x (decimal n) x₁ out₁ → Puts out₁ x₁ (10 ∷ []) x₂ out₂ → Puts out at (line word n) x₂ out₂
+  pub puts-line : (word : List ℕ) (n : ℕ) {x₁ x₂ : ℕ} {out₁ out₂ : List ℕ} →
+      Puts out at word x mid → Puts mid x (decimal n) x₁ out₁ → Puts out₁ x₁ (10 ∷ []) x₂ out₂ →
+      Puts out at (line word n) x₂ out₂
   unfolding line
   puts-line word n p q r = puts-append p (puts-append q r)
 
-  pub puts-letters : (letters : List ℕ) {x₁ : ℕ} {out₁ : List ℕ} → 0 < length letters → Puts out at (32 ∷ []) x mid → Puts mid x letters x₁ out₁ → Puts out at (spacedLetters letters) x₁ out₁
+  pub puts-letters : (letters : List ℕ) {x₁ : ℕ} {out₁ : List ℕ} →
+      0 < length letters → Puts out at (32 ∷ []) x mid → Puts mid x letters x₁ out₁ →
+      Puts out at (spacedLetters letters) x₁ out₁
   unfolding spacedLetters
   puts-letters [] h p q = absurd (omega arith)
   puts-letters (l ∷ ls) h p q = puts-append p q
 
-  pub puts-ok : (letters : List ℕ) {x₁ x₂ x₃ : ℕ} {out₁ out₂ out₃ : List ℕ} → Puts out at okWord x mid → Puts mid x (decimal (length letters)) x₁ out₁ → Puts out₁ x₁ (spacedLetters letters) x₂ out₂ → Puts out₂ x₂ (10 ∷ []) x₃ out₃ → Puts out at (okLine letters) x₃ out₃
+  pub puts-ok : (letters : List ℕ) {x₁ x₂ x₃ : ℕ} {out₁ out₂ out₃ : List ℕ} →
+      Puts out at okWord x mid → Puts mid x (decimal (length letters)) x₁ out₁ → Puts out₁ x₁ (spacedLetters letters) x₂ out₂ →
+      Puts out₂ x₂ (10 ∷ []) x₃ out₃ →
+      Puts out at (okLine letters) x₃ out₃
   unfolding okLine
   puts-ok letters p q r s = puts-append p (puts-append q (puts-append r s))
 

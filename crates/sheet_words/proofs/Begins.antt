@@ -1,38 +1,43 @@
--- The definitions as the code asks for them: a word compared byte by byte. Assumes nothing.
-use mathlib.Core.Path.{_≡_, refl, sym}
-use mathlib.Core.Bool.{Bool, true, false}
+-- A word compared byte by byte: where the bytes so far are the word's, the rest decides. Assumes nothing.
+use mathlib.Core.Path.{_≡_, refl, sym, _∙_}
+use mathlib.Core.Bool.{true, false}
 use mathlib.Core.List.{List}
 use Prim.Native.Nat.{ℕ, _+_, _≤_, _<_}
 use native.Mathlib.Numerals.{add-one}
+use native.Mathlib.Omega.{arith}
 use borrow.Author.Tests.{eq-eqb, ne-eqb}
 use lib.ListN.{length, getD, drop, drop-of-length-le}
 use lib.Seq.{drop-cons}
 use Rattle.sheet_words.specs.Words.{begins}
 
--- from index i on
-unfoldable pub beginsFrom : List ℕ → List ℕ → ℕ → Bool
-beginsFrom ws xs i = begins (drop i ws) (drop i xs)
+-- the first i bytes of the line are those of the word
+pub record Begun (word line : List ℕ) (i : ℕ) : Type 0 where
+  pub within : i ≤ length word
+  pub rest : begins word line ≡ begins (drop i word) (drop i line)
 
-module _ (ws xs : List ℕ) where
-  pub begins-all : begins ws xs ≡ beginsFrom ws xs 0
-  unfolding beginsFrom
-  begins-all = refl
+module _ {word line : List ℕ} where
+  pub begun-none : Begun word line 0
+  begun-none = record { within = omega arith; rest = refl }
 
-  module _ {i : ℕ} where
-    pub begins-end : length ws ≤ i → beginsFrom ws xs i ≡ true
-    unfolding beginsFrom begins
-    begins-end h = rw (drop-of-length-le ws {i = i} h)
+  module _ {i : ℕ} (b : Begun word line i) where
+    pub begun-all : length word ≤ i → true ≡ begins word line
+    unfolding begins
+    begun-all h = sym (b .rest ∙ rw (drop-of-length-le word {i = i} h))
 
-    module _ (h : i < length ws) where
-      pub begins-short : length xs ≤ i → beginsFrom ws xs i ≡ false
-      unfolding beginsFrom begins
-      begins-short k = rw (drop-cons ws i 0 h, drop-of-length-le xs {i = i} k)
+    module _ (h : i < length word) where
+      pub begun-short : length line ≤ i → false ≡ begins word line
+      unfolding begins
+      begun-short k = sym (b .rest ∙ rw (drop-cons word i 0 h, drop-of-length-le line {i = i} k))
 
-      module _ (k : i < length xs) where
-        pub begins-other : (getD xs i 0 ≡ getD ws i 0 → ⊥) → beginsFrom ws xs i ≡ false
-        unfolding beginsFrom begins
-        begins-other f = rw (drop-cons ws i 0 h, drop-cons xs i 0 k, ne-eqb (getD ws i 0) (getD xs i 0) (λ e. f (sym e)))
+      module _ (k : i < length line) where
+        pub begun-other : (getD line i 0 ≡ getD word i 0 → ⊥) → false ≡ begins word line
+        unfolding begins
+        begun-other f =
+            let differ = ne-eqb (getD word i 0) (getD line i 0) (λ e. f (sym e)) in
+            sym (b .rest ∙ rw (drop-cons word i 0 h, drop-cons line i 0 k, differ))
 
-        pub begins-same : getD xs i 0 ≡ getD ws i 0 → beginsFrom ws xs i ≡ beginsFrom ws xs (i + 1)
-        unfolding beginsFrom begins
-        begins-same e = rw (drop-cons ws i 0 h, drop-cons xs i 0 k, eq-eqb (getD ws i 0) (getD xs i 0) (sym e), add-one)
+        pub begun-more : getD line i 0 ≡ getD word i 0 → Begun word line (i + 1)
+        unfolding begins
+        begun-more e =
+            let same = eq-eqb (getD word i 0) (getD line i 0) (sym e) in
+            record { within = omega arith; rest = b .rest ∙ rw (drop-cons word i 0 h, drop-cons line i 0 k, same, add-one) }

@@ -2,7 +2,7 @@
 use mathlib.Core.Path.{_≡_, refl, sym, _∙_}
 use mathlib.Core.Bool.{true, false}
 use mathlib.Core.List.{List}
-use Prim.Native.Nat.{ℕ, zero, suc, _+_, _-_, _*_, _≤_, _<_}
+use Prim.Native.Nat.{ℕ, zero, suc, _+_, _-_, _*_, _^_, _≤_, _<_}
 use native.Mathlib.Numerals.{add-one, sub-one}
 use borrow.Author.Tests.{eq-eqb, ne-eqb}
 use lib.ListN.{length, getD, drop, drop-of-length-le}
@@ -31,10 +31,17 @@ module _ (xs : List ℕ) (n i : ℕ) where
     more-other zero e = refl
     more-other (suc k) e = rw (drop-cons xs i 0 h, e)
 
-    pub more-digit : (k : ℕ) {d : ℕ} {t : Number} → (k ≡ 0 → ⊥) → isDigit (getD xs i 0) ≡ true → d ≡ getD xs i 0 - 48 → t ≡ moreAt (k - 1) (10 * n + d) xs (i + 1) → t ≡ moreAt k n xs i
+    pub more-digit : (k : ℕ) {d : ℕ} {t : Number} → (k ≡ 0 → ⊥) →
+        isDigit (getD xs i 0) ≡ true → d ≡ getD xs i 0 - 48 → t ≡ moreAt (k - 1) (10 * n + d) xs (i + 1) →
+        t ≡ moreAt k n xs i
     unfolding moreAt more
     more-digit zero f e v q = absurd (f refl)
     more-digit (suc k) f e v q = q ∙ rw (v, drop-cons xs i 0 h, e, sub-one, add-one)
+
+-- what is left to read of the number t: up to k digits more from index i on, after digits of value n
+pub record Left (xs : List ℕ) (t : Number) (k n i : ℕ) : Type 0 where
+  pub room : (n + 1) * 10 ^ k ≤ 1000
+  pub rest : moreAt k n xs i ≡ t
 
 -- a space and a number from index i on
 module _ (xs : List ℕ) (i : ℕ) where

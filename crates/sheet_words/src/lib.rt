@@ -2,12 +2,10 @@
 ghost use mathlib.Core.Path.{_≡_};
 ghost use mathlib.Core.Bool.{true};
 ghost use Prim.Native.Nat.{_+_, _-_, _*_, _^_, _≤_};
-ghost use Rattle.mesh.specs.Mesh.{place};
 ghost use Rattle.sheet_words.specs.Words.{isDigit, begins, sizes, fault, sendTo, send, command};
 ghost use Rattle.sheet_words.specs.Reading.{numberOf, twoOf, moreAt, spacedAt, twoAt, lastAt};
-use mesh::Column;
 use mesh::Place;
-use mesh::Row;
+use numbers::place_of;
 
 // What a line says. Its numbers have one to three digits; whether they fit the mesh is not asked here.
 pub enum Command {
@@ -144,15 +142,6 @@ fn read_last(line: &[u8], at: usize) -> Both
             }
             return Both::Two(a, b, end);
         }
-    }
-}
-
-fn place_of(row: u32, column: u32) -> Place
-    ensures { λ p. ⌜ p ≡ place row column ⌝ }
-{
-    Place {
-        row: Row(row),
-        column: Column(column),
     }
 }
 

@@ -1,4 +1,4 @@
--- The digits of the tenth, then the last; the number falls. Assumes nothing.
+-- The digits of the tenth, which is less, then the last one. Assumes nothing.
 use Prim.Native.Nat.{ℕ, _<_}
 use native.Mathlib.Omega.{arith}
 use borrow.Fn.Kinds.{In}
@@ -39,19 +39,28 @@ same-length : (t : ℕ) → put-number-lts.Need-same-length (callees t) (put-num
 same-length t c = omega arith
 
 returns : (t : ℕ) → put-number-lts.Need-returns (callees t) (put-number-at t) put-number.Post
-returns t c = puts-digit _ (c .before .before .before .before .if1 .taken) (c .before .before .put-byte .ensures)
+returns t c =
+    let digit-put = c .before .before in
+    let small = digit-put .before .before in
+    puts-digit _ (small .if1 .taken) (digit-put .put-byte .ensures)
 
 put-number-requires : (t : ℕ) → put-number-lts.Need-put-number-requires (callees t) (put-number-at t) put-number.Post
 put-number-requires t c κs = omega arith
 
 put-byte-requires-2 : (t : ℕ) → put-number-lts.Need-put-byte-requires-2 (callees t) (put-number-at t) put-number.Post
-put-byte-requires-2 t c κs = omega (arith, tenth-fits _ (c .before .before .before .before .before .before .before .pre .1 .0) (c .before .before .before .put-number .ensures))
+put-byte-requires-2 t c κs =
+    let tenth-put = c .before .before .before in
+    let at-entry = tenth-put .before .before .before .before in
+    omega (arith, tenth-fits _ (at-entry .pre .1 .0) (tenth-put .put-number .ensures))
 
 same-length-2 : (t : ℕ) → put-number-lts.Need-same-length-2 (callees t) (put-number-at t) put-number.Post
 same-length-2 t c = omega arith
 
 returns-2 : (t : ℕ) → put-number-lts.Need-returns-2 (callees t) (put-number-at t) put-number.Post
-returns-2 t c = puts-number _ (omega arith) (c .before .before .before .before .before .before .put-number .ensures) (c .before .before .put-byte2 .ensures)
+returns-2 t c =
+    let digit-put = c .before .before in
+    let tenth-put = digit-put .before .before .before .before in
+    puts-number _ (omega arith) (tenth-put .put-number .ensures) (digit-put .put-byte2 .ensures)
 
 pub +put-number-spec : {M : Type 1} → statement M
 +put-number-spec =

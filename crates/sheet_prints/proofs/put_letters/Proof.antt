@@ -17,7 +17,10 @@ same-length : tie.Need-same-length
 same-length c = omega arith
 
 returns-2 : tie.Need-returns-2
-returns-2 c = puts-letters _ (omega arith) (c .before .before .before .before .before .before .put-byte .ensures) (c .before .before .put .ensures)
+returns-2 c =
+    let letters-put = c .before .before in
+    let space-put = letters-put .before .before .before .before in
+    puts-letters _ (omega arith) (space-put .put-byte .ensures) (letters-put .put .ensures)
 
 pub put-letters-spec : {M : Type 1} → statement M
 put-letters-spec =

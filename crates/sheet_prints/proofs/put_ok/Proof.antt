@@ -1,4 +1,4 @@
--- The word, the number, the letters, the newline. Assumes nothing.
+-- Its pieces are written one after another, and a number has at most five digits. Assumes nothing.
 use native.Mathlib.Omega.{arith}
 use Rattle.sheet_prints.proofs.Decimal.{decimal-length}
 use Rattle.sheet_prints.proofs.Lines.{letters-length, puts-ok}
@@ -18,16 +18,28 @@ put-number-requires : tie.Need-put-number-requires
 put-number-requires c κs = omega arith
 
 put-letters-requires : tie.Need-put-letters-requires
-put-letters-requires c κs = omega (arith, decimal-length _ (c .before .before .before .before .before .before .before .before .before .before .before .before .pre .0))
+put-letters-requires c κs =
+    let number-put = c .before .before .before in
+    let at-entry = number-put .before .before .before .before .before .before .before .before .before in
+    omega (arith, decimal-length _ (at-entry .pre .0))
 
 put-byte-requires : tie.Need-put-byte-requires
-put-byte-requires c κs = omega (arith, decimal-length _ (c .before .before .before .before .before .before .before .before .before .before .before .before .before .before .before .before .pre .0), letters-length (c .before .before .before .before .before .before .before .before .before .before .before .before .before .before .before .before .args .letters .now))
+put-byte-requires c κs =
+    let letters-put = c .before .before .before in
+    let number-put = letters-put .before .before .before .before in
+    let at-entry = number-put .before .before .before .before .before .before .before .before .before in
+    omega (arith, decimal-length _ (at-entry .pre .0), letters-length (at-entry .args .letters .now))
 
 same-length : tie.Need-same-length
 same-length c = omega arith
 
 returns : tie.Need-returns
-returns c = puts-ok _ (c .before .before .before .before .before .before .before .before .before .before .before .before .before .before .put .ensures) (c .before .before .before .before .before .before .before .before .before .before .put-number .ensures) (c .before .before .before .before .before .before .put-letters .ensures) (c .before .before .put-byte .ensures)
+returns c =
+    let newline-put = c .before .before in
+    let letters-put = newline-put .before .before .before .before in
+    let number-put = letters-put .before .before .before .before in
+    let word-put = number-put .before .before .before .before in
+    puts-ok _ (word-put .put .ensures) (number-put .put-number .ensures) (letters-put .put-letters .ensures) (newline-put .put-byte .ensures)
 
 pub put-ok-spec : {M : Type 1} → statement M
 put-ok-spec =

@@ -1,4 +1,4 @@
--- A digit is at least 0. Assumes nothing.
+-- A digit is at least 48. Assumes nothing.
 use borrow.Author.Needs.{needs}
 use Rattle.sheet_words.proofs.Digits.{digit-fits}
 use Rattle.sheet_words.proofs.digit.Statement.{statement}

@@ -1,4 +1,4 @@
--- By whether two numbers were read. Assumes nothing.
+-- Two numbers and nothing after them, or no command. Assumes nothing.
 use borrow.Author.Needs.{needs}
 use Rattle.sheet_words.specs.Words.{fault}
 use Rattle.sheet_words.proofs.Spelling.{told-two, told-neither}
@@ -6,7 +6,7 @@ use Rattle.sheet_words.proofs.read_fault.Statement.{statement}
 use Rattle.sheet_words.proofs.read_fault.Tie as tie
 
 read-last-requires : tie.Need-read-last-requires
-read-last-requires c κs = search needs
+read-last-requires c κs = tt
 
 enum-told : tie.Need-enum-told
 enum-told c = search needs
@@ -19,11 +19,13 @@ enum-known-got : tie.Need-enum-known-got
 enum-known-got c = search needs
 
 place-of-requires : tie.Need-place-of-requires
-place-of-requires c κs = search needs
+place-of-requires c κs = tt
 
 returns-2 : tie.Need-returns-2
 unfolding fault
-returns-2 c = rw (told-two _ (c .before .before .got .given .1) (c .before .before .before .before .read-last .ensures), c .place-of .ensures)
+returns-2 c =
+    let known = c .before .before in
+    rw (told-two _ (known .got .given .1) (known .before .before .read-last .ensures), c .place-of .ensures)
 
 pub read-fault-spec : {M : Type 1} → statement M
 read-fault-spec =

@@ -1,4 +1,4 @@
--- A space, a digit, and up to two digits more. Assumes nothing.
+-- A space, a digit, and up to two digits more: what the definition asks for, byte by byte. Assumes nothing.
 use borrow.Author.Needs.{needs}
 use mathlib.Core.Path.{sym, _∙_}
 use native.Mathlib.Omega.{arith}
@@ -21,16 +21,25 @@ add-first : tie.Need-add-first
 add-first c = search needs
 
 returns-3 : tie.Need-returns-3
-returns-3 c = spaced-alone _ _ (c .before .before .before .if1 .left) (c .before .if2 .left) (c .if3 .taken)
+returns-3 c =
+    let a-space = c .before in
+    let a-byte = a-space .before .before in
+    spaced-alone _ _ (a-byte .if1 .left) (a-space .if2 .left) (c .if3 .taken)
 
 shared-slice-read-x : tie.Need-shared-slice-read-x
 shared-slice-read-x c = search needs
 
 is-digit-requires : tie.Need-is-digit-requires
-is-digit-requires c κs = search needs
+is-digit-requires c κs = tt
 
 returns-4 : tie.Need-returns-4
-returns-4 c = spaced-letter _ _ (c .before .before .before .before .before .before .if1 .left) (c .before .before .before .before .if2 .left) (c .before .before .before .if3 .left) (sym (c .before .is-digit .ensures) ∙ not-true _ (c .if4 .taken))
+returns-4 c =
+    let digit-asked = c .before in
+    let another = digit-asked .before .before in
+    let a-space = another .before in
+    let a-byte = a-space .before .before in
+    let none = sym (digit-asked .is-digit .ensures) ∙ not-true _ (c .if4 .taken) in
+    spaced-letter _ _ (a-byte .if1 .left) (a-space .if2 .left) (another .if3 .left) none
 
 add-read-more : tie.Need-add-read-more
 add-read-more c = search needs
@@ -39,10 +48,20 @@ digit-requires : tie.Need-digit-requires
 digit-requires c κs = sym (c .before .is-digit .ensures) ∙ not-false _ (c .if4 .left)
 
 read-more-requires : tie.Need-read-more-requires
-read-more-requires c κs = omega (arith, digit-fits _ (sym (c .before .before .is-digit .ensures) ∙ not-false _ (c .before .if4 .left)))
+read-more-requires c κs =
+    let a-digit = c .before in
+    omega (arith, digit-fits _ (sym (a-digit .before .is-digit .ensures) ∙ not-false _ (a-digit .if4 .left)))
 
 returns-5 : tie.Need-returns-5
-returns-5 c = spaced-digit _ _ (c .before .before .before .before .before .before .before .before .if1 .left) (c .before .before .before .before .before .before .if2 .left) (c .before .before .before .before .before .if3 .left) (sym (c .before .before .before .is-digit .ensures) ∙ not-false _ (c .before .before .if4 .left)) (c .before .digit .ensures) (c .read-more .ensures)
+returns-5 c =
+    let digit-read = c .before in
+    let a-digit = digit-read .before in
+    let digit-asked = a-digit .before in
+    let another = digit-asked .before .before in
+    let a-space = another .before in
+    let a-byte = a-space .before .before in
+    let one = sym (digit-asked .is-digit .ensures) ∙ not-false _ (a-digit .if4 .left) in
+    spaced-digit _ _ (a-byte .if1 .left) (a-space .if2 .left) (another .if3 .left) one (digit-read .digit .ensures) (c .read-more .ensures)
 
 pub read-number-spec : {M : Type 1} → statement M
 read-number-spec =

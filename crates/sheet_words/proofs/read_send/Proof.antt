@@ -7,7 +7,7 @@ use Rattle.sheet_words.proofs.read_send.Statement.{statement}
 use Rattle.sheet_words.proofs.read_send.Tie as tie
 
 read-two-requires : tie.Need-read-two-requires
-read-two-requires c κs = search needs
+read-two-requires c κs = tt
 
 enum-told : tie.Need-enum-told
 enum-told c = search needs
@@ -20,14 +20,17 @@ enum-known-got : tie.Need-enum-known-got
 enum-known-got c = search needs
 
 place-of-requires : tie.Need-place-of-requires
-place-of-requires c κs = search needs
+place-of-requires c κs = tt
 
 read-destination-requires : tie.Need-read-destination-requires
-read-destination-requires c κs = search needs
+read-destination-requires c κs = tt
 
 returns-2 : tie.Need-returns-2
 unfolding send lastAt
-returns-2 c = rw (told-two _ (c .before .before .before .got .given .1) (c .before .before .before .before .before .read-two .ensures), ← c .before .place-of .ensures) (c .read-destination .ensures)
+returns-2 c =
+    let source = c .before in
+    let known = source .before .before in
+    rw (told-two _ (known .got .given .1) (known .before .before .read-two .ensures), ← source .place-of .ensures) (c .read-destination .ensures)
 
 pub read-send-spec : {M : Type 1} → statement M
 read-send-spec =

@@ -1,11 +1,11 @@
--- One number, then another from where it ends. Assumes nothing.
+-- The second number is read from where the first ends. Assumes nothing.
 use borrow.Author.Needs.{needs}
 use Rattle.sheet_words.proofs.Spelling.{two-none, two-one, two-both}
 use Rattle.sheet_words.proofs.read_two.Statement.{statement}
 use Rattle.sheet_words.proofs.read_two.Tie as tie
 
 read-number-requires : tie.Need-read-number-requires
-read-number-requires c κs = search needs
+read-number-requires c κs = tt
 
 enum-told : tie.Need-enum-told
 enum-told c = search needs
@@ -17,19 +17,29 @@ enum-known-one : tie.Need-enum-known-one
 enum-known-one c = search needs
 
 read-number-requires-2 : tie.Need-read-number-requires-2
-read-number-requires-2 c κs = search needs
+read-number-requires-2 c κs = tt
 
 enum-told-2 : tie.Need-enum-told-2
 enum-told-2 c = search needs
 
 returns-2 : tie.Need-returns-2
-returns-2 c = two-one _ _ (c .before .before .before .before .before .before .read-number .ensures) (c .before .before .before .before .one .given .1) (c .before .before .read-number2 .ensures) (c .enum-told2 .given .1)
+returns-2 c =
+    let second-read = c .before .before in
+    let first-known = second-read .before .before in
+    let first-read = first-known .before .before in
+    two-one _ _ (first-read .read-number .ensures) (first-known .one .given .1) (second-read .read-number2 .ensures) (c .enum-told2 .given .1)
 
 enum-known-other : tie.Need-enum-known-other
 enum-known-other c = search needs
 
 returns-3 : tie.Need-returns-3
-returns-3 c = two-both _ _ (c .before .before .before .before .before .before .before .read-number .ensures) (c .before .before .before .before .before .one .given .1) (c .before .before .before .read-number2 .ensures) (c .before .other .given .1)
+returns-3 c =
+    let second-known = c .before in
+    let second-read = second-known .before .before in
+    let first-known = second-read .before .before in
+    let first-read = first-known .before .before in
+    two-both _ _ (first-read .read-number .ensures) (first-known .one .given .1) (second-read .read-number2 .ensures)
+    (second-known .other .given .1)
 
 pub read-two-spec : {M : Type 1} → statement M
 read-two-spec =
