@@ -97,3 +97,7 @@ command xs =
     cond (begins meshWord xs) (sizes (ended (two (drop 4 xs))))
     (cond (begins faultWord xs) (fault (ended (two (drop 5 xs))))
     (cond (begins sendWord xs) (send (two (drop 4 xs))) Malformed))
+
+-- what line n of a sheet says: any after the 65,535th is malformed
+unfoldable pub commandAt : ℕ → List ℕ → Command
+commandAt n xs = cond (leb n 65535) (command xs) Malformed

@@ -2,7 +2,7 @@
 ghost use mathlib.Core.Path.{_≡_};
 ghost use mathlib.Core.Bool.{true};
 ghost use Prim.Native.Nat.{_+_, _-_, _*_, _^_, _≤_};
-ghost use Rattle.sheet_words.specs.Words.{isDigit, begins, sizes, fault, sendTo, send, command};
+ghost use Rattle.sheet_words.specs.Words.{isDigit, begins, sizes, fault, sendTo, send, command, commandAt};
 ghost use Rattle.sheet_words.specs.Reading.{numberOf, twoOf, moreAt, spacedAt, twoAt, lastAt};
 use mesh::Place;
 use numbers::place_of;
@@ -206,7 +206,7 @@ fn read_send(line: &[u8]) -> Command
 }
 
 // What a line says, without its newline.
-pub fn read_command(line: &[u8]) -> Command
+fn read_command(line: &[u8]) -> Command
     ensures { λ x. ⌜ x ≡ command (now (line .entry)) ⌝ }
 {
     if has_word(line, b"mesh") {
@@ -219,4 +219,14 @@ pub fn read_command(line: &[u8]) -> Command
         return read_send(line);
     }
     Command::Malformed
+}
+
+// What line `number` of a sheet says, without its newline.
+pub fn read_line(number: u32, text: &[u8]) -> Command
+    ensures { λ x. ⌜ x ≡ commandAt number (now (text .entry)) ⌝ }
+{
+    if 65535 < number {
+        return Command::Malformed;
+    }
+    read_command(text)
 }

@@ -1,5 +1,5 @@
--- A byte brings the run nearer to its end: it has at most 65,536 lines of at most 20 bytes and a newline. Assumes nothing.
-use mathlib.Core.Path.{_≡_, refl, sym, ap, _∙_}
+-- Each byte brings the run nearer to its end: it has at most 65,536 lines, of each of which at most 20 bytes and a newline are taken. Assumes nothing.
+use mathlib.Core.Path.{_≡_, refl}
 use mathlib.Core.Logic.{inl, inr}
 use mathlib.Core.Bool.{true, false}
 use mathlib.Core.List.{List, [], _∷_, _++_}
@@ -8,21 +8,17 @@ use native.Mathlib.Omega.{arith}
 use borrow.Author.Tests.{leb-false}
 use lib.Dec.{leb, eqb}
 use lib.ListN.{length, length-append}
-use lib.Seq.{length-take-le}
 use Rattle.mesh.proofs.Bools.{value, true-false}
-use Rattle.sheet_reader.specs.declared.Reader.{Reader as Held}
-use Rattle.sheet_reader.specs.Reader.{Reader, begun, feed, feedAll}
-use Rattle.sheet_reader.specs.Reading.{readerOf, Reading}
-use Rattle.sheet_reader.proofs.Lines.{rests, goes-on}
-use Rattle.sheet_reader.proofs.Feeding.{goes-on-early}
+use Rattle.theory_sheet.specs.Reader.{Reader, begun, feed, feedAll}
+use Rattle.theory_sheet.proofs.Feeding.{rests, goes-on, goes-on-early}
 
 -- the reader is in a line that is at most the 65,536th, of which it holds at most 20 bytes
-record Within (r : Reader) : Type 0 where
+pub record Within (r : Reader) : Type 0 where
   pub few : r .number ≤ 65536
   pub short : length (r .held) ≤ 20
 
 -- how many bytes it can take yet
-abbrev most : Reader → ℕ
+abbrev pub most : Reader → ℕ
 most r = (65537 - r .number) * 21 - length (r .held)
 
 feed-less : (r : Reader) (x : ℕ) → Within r → feed r x .next .over ≡ false → Within (feed r x .next) × (most (feed r x .next) < most r)
@@ -42,7 +38,9 @@ feed-less r x w on =
           ]
     ]
 
-feed-all-less : (r : Reader) (xs : List ℕ) → Within r → r .over ≡ false → feedAll r xs .next .over ≡ false → Within (feedAll r xs .next) × (most (feedAll r xs .next) + length xs ≤ most r)
+-- after bytes that do not end the run so many fewer can be taken
+pub feed-all-less : (r : Reader) (xs : List ℕ) → Within r → r .over ≡ false → feedAll r xs .next .over ≡ false →
+    Within (feedAll r xs .next) × (most (feedAll r xs .next) + length xs ≤ most r)
 unfolding feedAll
 feed-all-less r [] w on end = (w, omega arith)
 feed-all-less r (x ∷ xs) w on end =
@@ -56,7 +54,6 @@ feed-all-less r (x ∷ xs) w on end =
           rw further (end-within, omega arith)
     ]
 
--- a run is over after 65,536 times 21 bytes at the latest
 pub run-ends : (xs : List ℕ) → 1376256 ≤ length xs → feedAll begun xs .next .over ≡ true
 run-ends xs many =
     elim (value (feedAll begun xs .next .over)) [
@@ -65,13 +62,3 @@ run-ends xs many =
           let (end-within, less) = feed-all-less begun xs (record { few = omega arith; short = omega arith }) refl still in
           absurd (omega (arith, end-within .few, end-within .short))
     ]
-
-within : {r : Held} {hold map marks : List ℕ} → Reading r hold map marks → r .over ≡ false → Within (readerOf r hold map)
-within {r} {hold} g on =
-    record { few = g .few on; short = omega (arith, g .short, length-take-le (r .held) hold (omega (arith, g .short, g .room))) }
-
--- after some bytes that do not end the run fewer can be taken
-pub progresses : {r s : Held} {hold map marks hold′ map′ marks′ : List ℕ} → Reading r hold map marks → Reading s hold′ map′ marks′ → r .over ≡ false → s .over ≡ false → (xs : List ℕ) → 1 ≤ length xs → readerOf s hold′ map′ ≡ feedAll (readerOf r hold map) xs .next → (65537 - s .number) * 21 - s .held < (65537 - r .number) * 21 - r .held
-progresses {r} {s} {hold} {map} {marks} {hold′} {map′} g g′ on on′ xs some e =
-    let less = rw (← e) at (feed-all-less (readerOf r hold map) xs (within g on) on (ap (λ q. q .over) (sym e) ∙ on′) .1) in
-    omega (arith, g .few on, g′ .few on′, g .short, g′ .short, length-take-le (r .held) hold (omega (arith, g .short, g .room)), length-take-le (s .held) hold′ (omega (arith, g′ .short, g′ .room)))

@@ -1,23 +1,23 @@
 -- What is printed for a sheet (document 01, "The sheet program"). Assumes nothing.
-use mathlib.Core.Bool.{Bool, true, false, cond, _&&_}
+use mathlib.Core.Bool.{Bool, true, false, cond}
 use mathlib.Core.List.{List, [], _∷_, _++_}
 use Prim.Native.Nat.{ℕ, zero, suc, _+_, _*_}
-use lib.Dec.{leb, eqb}
+use lib.Dec.{eqb}
 use lib.ListN.{length, set, replicate}
-use Rattle.sheet_lines.specs.declared.Phase.{Phase}
-use Rattle.sheet_lines.specs.declared.Phase.the-variants.{Start, Faults, Sends}
+use Rattle.theory_sheet.specs.declared.Phase.{Phase}
+use Rattle.theory_sheet.specs.declared.Phase.the-variants.{Start, Faults, Sends}
 use Rattle.sheet_words.specs.declared.Command.{Command}
 use Rattle.sheet_words.specs.declared.Command.the-variants.{Mesh, Fault, Send, Malformed}
 use Rattle.mesh.specs.declared.Place.{Place}
 use Rattle.mesh.specs.Mesh.{Mesh as MeshOf, mesh}
 use Rattle.mesh.specs.Headings.{letters}
+use Rattle.mesh.specs.Tests.{first}
 use Rattle.mesh.specs.Rounds.{marked}
 use Rattle.mesh.specs.Blocks.{blocks}
 use Rattle.mesh.specs.Maps.{badSize, misplaced}
-use Rattle.mesh.specs.Requests.{offMesh}
+use Rattle.mesh.specs.Requests.{offMesh, requestTests}
 use Rattle.mesh.specs.Routing.{hopsOf}
-use Rattle.mesh.specs.Refusals.{requestRefusals}
-use Rattle.sheet_words.specs.Words.{command}
+use Rattle.sheet_words.specs.Words.{commandAt}
 use Rattle.sheet_prints.specs.Prints.{line, blocksWord, noWord, lineWord, okLine}
 
 -- a line without its newline, and whether it has one
@@ -35,7 +35,8 @@ unfoldable pub linesOf : List ℕ → List Line
 linesOf [] = []
 linesOf (x ∷ xs) = let rest = linesOf xs in cond (eqb x 10) (record { text = []; ended = true } ∷ rest) (before x rest)
 
--- what the lines so far have said: the mesh and its fault map
+-- what the lines so far have said: how far the sheet has come, its mesh, and its map. That is the fault map up to the first send,
+-- and the marking of it from then on.
 pub record State : Type 0 where
   pub phase : Phase
   pub columns : ℕ
@@ -45,9 +46,8 @@ pub record State : Type 0 where
 abbrev pub nothing : State
 nothing = record { phase = Start; columns = 0; rows = 0; map = [] }
 
--- its marked mesh
-abbrev pub markedOf : State → MeshOf
-markedOf t = marked (mesh (t .columns) (t .rows) (t .map))
+abbrev pub meshOf : State → MeshOf
+meshOf t = mesh (t .columns) (t .rows) (t .map)
 
 -- what a line prints, whether it ends the run, and what has been said after it
 pub record Step : Type 0 where
@@ -78,7 +78,7 @@ meshLine Sends n t columns rows = badLine n t
 unfoldable pub faultLine : Phase → ℕ → State → Place → Step
 faultLine Start n t p = badLine n t
 faultLine Faults n t p =
-    cond (offMesh (mesh (t .columns) (t .rows) (t .map)) p) (badLine n t)
+    cond (offMesh (meshOf t) p) (badLine n t)
     (saying []
     (record {
       phase = Faults;
@@ -88,53 +88,66 @@ faultLine Faults n t p =
     }))
 faultLine Sends n t p = badLine n t
 
+-- a fault where none is allowed
+unfoldable pub isMisplaced : State → Bool
+isMisplaced t = misplaced (t .columns) (t .rows) (t .map)
+
+-- blocks B
+unfoldable pub blocksLine : State → List ℕ
+blocksLine t = line blocksWord (length (blocks (marked (meshOf t))))
+
+-- from the first send on
+abbrev pub sending : State → State
+sending t = record { phase = Sends; columns = t .columns; rows = t .rows; map = marked (meshOf t) .map }
+
+-- before the answer to a send, and at the end of a sheet: `blocks B` or `no 5` where there was no send yet, and `no 5` ends the run;
+-- a send without a mesh line is too early, and an empty sheet gives `line 1`
+unfoldable pub opening : Phase → ℕ → State → Step
+opening Start n t = badLine n t
+opening Faults n t = cond (isMisplaced t) (ending (line noWord 5) t) (saying (blocksLine t) (sending t))
+opening Sends n t = saying [] t
+
+-- what line n says, before the answer to a send
+unfoldable pub change : ℕ → State → Command → Step
+change n t (Mesh columns rows) = meshLine (t .phase) n t columns rows
+change n t (Fault p) = faultLine (t .phase) n t p
+change n t (Send s d) = opening (t .phase) n t
+change n t Malformed = badLine n t
+
 -- no NUMBER, or ok HOPS LETTERS
 unfoldable pub answerOf : ℕ → List ℕ → List ℕ
 answerOf zero xs = okLine xs
 answerOf (suc k) xs = line noWord (suc k)
 
--- a send's answer: refusals 6 to 9, else its route
+-- a send's answer on a marked mesh: refusals 6 to 9, else its route
 unfoldable pub sendAnswer : MeshOf → Place → Place → List ℕ
-sendAnswer w s d = answerOf (requestRefusals w s d 0) (letters (hopsOf w s d))
+sendAnswer w s d = answerOf (first (requestTests w s d)) (letters (hopsOf w s d))
 
-abbrev pub sending : State → State
-sending t = record { phase = Sends; columns = t .columns; rows = t .rows; map = t .map }
+-- only sends are answered
+unfoldable pub answer : MeshOf → Command → List ℕ
+answer w (Mesh columns rows) = []
+answer w (Fault p) = []
+answer w (Send s d) = sendAnswer w s d
+answer w Malformed = []
 
--- blocks B
-unfoldable pub blocksLine : State → List ℕ
-blocksLine t = line blocksWord (length (blocks (markedOf t)))
+-- a line's answer, unless it ends the run
+unfoldable pub answering : Command → Step → Step
+answering c x = let on = saying (x .printed ++ answer (meshOf (x .next)) c) (x .next) in cond (x .ends) x on
 
--- a fault where none is allowed
-unfoldable pub isMisplaced : State → Bool
-isMisplaced t = misplaced (t .columns) (t .rows) (t .map)
+-- a line without its newline is malformed
+unfoldable pub commandOf : ℕ → Line → Command
+commandOf n l = cond (l .ended) (commandAt n (l .text)) Malformed
 
--- before the answer to the first send `blocks B`, or `no 5`, which ends the run
-unfoldable pub sendLine : Phase → ℕ → State → Place → Place → Step
-sendLine Start n t s d = badLine n t
-sendLine Faults n t s d =
-    cond (isMisplaced t) (ending (line noWord 5) t) (saying (blocksLine t ++ sendAnswer (markedOf t) s d) (sending t))
-sendLine Sends n t s d = saying (sendAnswer (markedOf t) s d) t
-
--- what line n says
-unfoldable pub commandStep : ℕ → State → Command → Step
-commandStep n t (Mesh columns rows) = meshLine (t .phase) n t columns rows
-commandStep n t (Fault p) = faultLine (t .phase) n t p
-commandStep n t (Send s d) = sendLine (t .phase) n t s d
-commandStep n t Malformed = badLine n t
-
--- a line without its newline is malformed, and so is any after the 65,535th
 unfoldable pub lineStep : ℕ → State → Line → Step
-lineStep n t l = cond (l .ended && leb n 65535) (commandStep n t (command (l .text))) (badLine n t)
+lineStep n t l = answering (commandOf n l) (change n t (commandOf n l))
 
--- at the end of a sheet without sends `blocks B` or `no 5`; an empty sheet gives `line 1`
-unfoldable pub atEnd : Phase → ℕ → State → List ℕ
-atEnd Start n t = line lineWord n
-atEnd Faults n t = cond (isMisplaced t) (line noWord 5) (blocksLine t)
-atEnd Sends n t = []
+-- at the end of the sheet, n being the number of the line after the last
+unfoldable pub atEnd : ℕ → State → List ℕ
+atEnd n t = opening (t .phase) n t .printed
 
 -- what is printed from line n on
 unfoldable pub answers : ℕ → State → List Line → List ℕ
-answers n t [] = atEnd (t .phase) n t
+answers n t [] = atEnd n t
 answers n t (l ∷ ls) =
     let rest = answers (suc n) (lineStep n t l .next) ls in
     lineStep n t l .printed ++ cond (lineStep n t l .ends) [] rest

@@ -1,11 +1,12 @@
--- The worked example of document 01, and a few sheets with bad lines, in one list with one claim. Assumes nothing.
+-- The worked example of document 01, and sheets with bad lines and refusals, in one list with one claim. Assumes nothing.
 use mathlib.Core.Bool.{Bool, true, _&&_}
 use mathlib.Core.List.{List, [], _∷_}
 use Prim.Native.String.{String}
 use lib.Dec.{T}
 use Rattle.mesh.specs.Mesh.{onMesh}
-use Rattle.mesh.specs.Headings.{rowAfter, columnAfter, letter, letters}
+use Rattle.mesh.specs.Headings.{rowAfter, columnAfter, letters}
 use Rattle.mesh.specs.Parity.{turnsWest}
+use Rattle.mesh.specs.Tests.{first}
 use Rattle.mesh.specs.Nodes.{isBad, bad, ahead, upright, ruleA, ruleB, unsafe}
 use Rattle.mesh.specs.Rounds.{become, advance, round, sameList, settle}
 use Rattle.mesh.specs.Blocks.{run, corner, blockAt, select, blocks, reaches, onRing, onSomeRing}
@@ -13,13 +14,13 @@ use Rattle.mesh.specs.Rules.{blocked, side, toward, own, stopped, again, atDest
 use Rattle.mesh.specs.Hops.{moved}
 use Rattle.mesh.specs.Walk.{arrived, hopAt, walk, shutIn, distance, detours, bound}
 use Rattle.mesh.specs.Maps.{allowed, badSize, some, misplacedAt, misplaced}
-use Rattle.mesh.specs.Requests.{offMesh, inBlock, onARing, unserved}
+use Rattle.mesh.specs.Requests.{offMesh, inBlock, onARing, unserved, placeTests, tripTests, requestTests}
 use Rattle.mesh.specs.Routing.{hopsOf}
-use Rattle.mesh.specs.Refusals.{placeRefusals, requestRefusals}
 use Rattle.mesh.specs.Cases.{bytes}
-use Rattle.sheet_words.specs.Words.{isDigit, more, number, spaced, second, first, two, ended, begins, sizes, fault, sendTo, send, command}
+use Rattle.sheet_words.specs.Words as words
+use Rattle.sheet_words.specs.Words.{isDigit, more, number, spaced, second, two, begins, ended, sizes, fault, sendTo, send, command, commandAt}
 use Rattle.sheet_prints.specs.Prints.{digits, decimal, line, spacedLetters, okLine}
-use Rattle.sheet_lines.specs.Sheet.{before, linesOf, meshLine, faultLine, answerOf, sendAnswer, blocksLine, isMisplaced, sendLine, commandStep, lineStep, atEnd, answers, sheet}
+use Rattle.theory_sheet.specs.Sheet.{before, linesOf, meshLine, faultLine, isMisplaced, blocksLine, opening, change, answerOf, sendAnswer, answer, answering, commandOf, lineStep, atEnd, answers, sheet}
 
 -- a sheet, and what is printed for it
 pub record Case : Type 0 where
@@ -41,13 +42,17 @@ cases =
     gives "mesh 0 99\n" "no 1\n" ∷
     gives "mesh 64 065\n" "no 2\n" ∷
     gives "mesh 0 0" "line 1\n" ∷
+    gives "send 1 1 1 1\n" "line 1\n" ∷
     gives "mesh 10 8\nmesh 10 8\n" "line 2\n" ∷
+    gives "mesh 10 8\nfault 3  4\n" "line 2\n" ∷
+    gives "mesh 10 8\nfault 3 4\nfault 3 4\n" "blocks 1\n" ∷
     gives "mesh 10 8\nfault 0 0\nsend 1 1 1 1\n" "no 5\n" ∷
     gives "mesh 10 8\nfault 0 0\nsend 1 1 1 1" "line 3\n" ∷
     gives "mesh 10 8\nfault 8 0\n" "line 2\n" ∷
     gives "mesh 10 8\nsend 1 1 1 1\nfault 3 4\n" "blocks 0\nok 0\nline 3\n" ∷
+    gives "mesh 10 8\nsend 1 1 8 1\nsend 1 1 1 1\n" "blocks 0\nno 6\nok 0\n" ∷
     []
 
 pub cases-print : T (allPrint cases)
-unfolding cases allPrint isMisplaced bytes sameList onMesh isBad bad ahead upright ruleA ruleB unsafe become advance round settle run corner blockAt select blocks reaches onRing onSomeRing allowed turnsWest blocked side toward own stopped again atDestination inRow leaving across nearing otherRow hop rowAfter columnAfter letters moved arrived hopAt walk shutIn distance detours bound badSize some misplacedAt misplaced offMesh inBlock onARing unserved placeRefusals hopsOf requestRefusals isDigit more number spaced second first two ended begins sizes fault sendTo send command digits decimal line spacedLetters okLine before linesOf meshLine faultLine answerOf sendAnswer blocksLine sendLine commandStep lineStep atEnd answers sheet
+unfolding cases allPrint sheet answers atEnd lineStep commandOf answering answer sendAnswer answerOf change opening blocksLine isMisplaced faultLine meshLine linesOf before okLine spacedLetters line decimal digits commandAt command send sendTo fault sizes ended begins two words.first second spaced number more isDigit bytes hopsOf requestTests tripTests placeTests unserved onARing inBlock offMesh misplaced misplacedAt some badSize allowed bound detours distance shutIn walk hopAt arrived moved hop otherRow nearing across leaving inRow atDestination again stopped own toward side blocked onSomeRing onRing reaches blocks select blockAt corner run settle sameList round advance become unsafe ruleB ruleA upright ahead bad isBad first turnsWest letters columnAfter rowAfter onMesh
 cases-print = tt

@@ -5,7 +5,7 @@ use Prim.Native.Nat.{ℕ, suc}
 use lib.Dec.{leb, eqb}
 use lib.ListN.{length}
 use Rattle.sheet_prints.specs.Prints.{line, lineWord}
-use Rattle.sheet_lines.specs.Sheet.{State, nothing, Step, lineStep, atEnd}
+use Rattle.theory_sheet.specs.Sheet.{State, nothing, Step, lineStep, atEnd}
 
 -- the number of the line being read, what the lines before it have said, what is held of it, and whether the run is over
 pub record Reader : Type 0 where
@@ -60,9 +60,9 @@ feedAll r (x ∷ xs) =
     cond (r .over) (record { printed = []; next = r }) on
 
 -- at the end of the sheet: a line without its newline is malformed
-unfoldable pub lastLine : Reader → List ℕ → List ℕ
-lastLine r [] = atEnd (r .state .phase) (r .number) (r .state)
-lastLine r (x ∷ xs) = line lineWord (r .number)
+unfoldable pub lastLine : ℕ → State → List ℕ → List ℕ
+lastLine n t [] = atEnd n t
+lastLine n t (x ∷ xs) = line lineWord n
 
 unfoldable pub finish : Reader → List ℕ
-finish r = cond (r .over) [] (lastLine r (r .held))
+finish r = cond (r .over) [] (lastLine (r .number) (r .state) (r .held))

@@ -1,0 +1,4 @@
+pub mod Phases
+pub mod Changes
+pub mod Faults
+pub mod Opening

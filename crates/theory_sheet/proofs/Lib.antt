@@ -1,0 +1,6 @@
+pub mod Theorems
+pub mod Lines
+pub mod Feeding
+pub mod Printing
+pub mod Ends
+pub mod Progress
