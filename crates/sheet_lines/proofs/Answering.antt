@@ -1,63 +1,96 @@
--- A line's answer, by what the line says. Assumes nothing.
-use mathlib.Core.Path.{_≡_, ap}
-use mathlib.Core.List.{List}
-use Prim.Native.Nat.{ℕ, _≤_, _<_}
-use borrow.Author.Tests.{le-leb, lt-leb}
+-- A line is answered by what it changes, what that prints, and the answer to a send on the map as it then is. Assumes nothing.
+use mathlib.Core.Path.{_≡_, refl, sym, ap, _∙_}
+use mathlib.Core.Logic.{inl, inr}
+use mathlib.Core.Bool.{Bool, true, false}
+use mathlib.Core.List.{List, [], _∷_, append-nil}
+use Prim.Native.Nat.{ℕ, _+_, _≤_, _<_}
+use native.Mathlib.Omega.{arith}
+use types.Run.{OneOf}
+use denote.Enum.Declared.{tagOf}
 use lib.ListN.{length}
+use Rattle.mesh.specs.declared.Place.{Place}
+use Rattle.mesh.specs.Mesh.{Mesh as MeshOf, mesh}
+use Rattle.mesh.proofs.Bools.{true-false}
+use Rattle.buffers.specs.Over.{Puts}
+use Rattle.buffers.proofs.Over.{puts-append, over-length}
+use Rattle.blocks.specs.Marking.{Marking}
 use Rattle.sheet_words.specs.declared.Command.{Command}
 use Rattle.sheet_words.specs.declared.Command.the-variants.{Mesh, Fault, Send, Malformed}
-use Rattle.mesh.specs.declared.Place.{Place}
-use Rattle.mesh.proofs.Bools.{true-false}
-use Rattle.sheet_words.specs.Words.{command}
-use Rattle.sheet_prints.specs.Prints.{line, lineWord}
-use Rattle.sheet_lines.specs.declared.Sheet.{Sheet}
+use Rattle.sheet_words.specs.Words.{commandAt}
+use Rattle.sheet_words.proofs.Command.{the-type}
+use Rattle.sheet_prints.specs.Prints.{lineWord, noWord, blocksWord}
+use Rattle.sheet_prints.proofs.Lines.{line-length}
+use Rattle.theory_sheet.specs.declared.Phase.the-variants.{Sends}
+use Rattle.theory_sheet.specs.Sheet.{opening, change, sendAnswer, answerTo, answering, commandOf, lineStep, atEnd}
+use Rattle.theory_sheet.proofs.Opening.{opened-sends}
+use Rattle.sheet_state.specs.declared.Sheet.{Sheet}
+use Rattle.sheet_state.specs.declared.Says.{Says}
+use Rattle.sheet_state.specs.declared.Says.the-variants.{BadLine, Refusal, Blocks, Nothing}
+use Rattle.sheet_state.specs.declared.Change.{Change}
+use Rattle.sheet_state.specs.Keeping.{mapOf, stateOf, Ready, saysLine, saysEnds, saysNumber, stepOf, Changes}
 use Rattle.sheet_lines.specs.declared.Answered.{Answered}
-use Rattle.sheet_lines.specs.Sheet.{Step, badLine, meshLine, faultLine, sendLine, commandStep, lineStep}
-use Rattle.sheet_lines.specs.Keeping.{stateOf, ended, StepsMap, Answers}
-use Rattle.sheet_lines.proofs.Phases.{sends-faults}
-use Rattle.sheet_lines.proofs.Faults.{Ends}
+use Rattle.sheet_lines.specs.Answers.{sendRoom, answerRoom, ended, Answers}
 
-steps-answers : {t : Step} {out : List ℕ} {at : ℕ} {x : Answered} {map marks after : List ℕ} → 4096 ≤ length marks → StepsMap t out at x map after → Answers t out at x map marks after
-steps-answers room s =
-    record {
-      puts = s .puts;
-      ends = s .ends;
-      next = s .next;
-      ready = λ e. record { on-map = s .ready; room = room; sends = λ f. sends-faults f (s .faults e) };
-    }
+says-short : (n : ℕ) (x : Says) → n < 100000 → saysNumber x < 100000 → length (saysLine n x) ≤ 13
+says-short n BadLine h k = omega (arith, line-length lineWord n h)
+says-short n (Refusal j) h k = omega (arith, line-length noWord j k)
+says-short n (Blocks j) h k = omega (arith, line-length blocksWord j k)
+says-short n Nothing h k = omega arith
 
-module _ (n : ℕ) (s : Sheet) (text map : List ℕ) {out : List ℕ} {at : ℕ} {x : Answered} {marks after : List ℕ} where
-  bad : Ends s x out at (line lineWord n) after → Answers (badLine n (stateOf s map)) out at x map marks after
-  bad e =
-      record {
-        puts = e .2;
-        ends = e .1;
-        next = ap (λ q. stateOf q map) (e .0);
-        ready = λ f. true-false (e .1) f;
-      }
+-- only a send is answered
+no-answer : (w : MeshOf) (c : Command) → OneOf (0 ∷ 1 ∷ 3 ∷ []) (tagOf the-type c) → answerTo w c ≡ []
+unfolding answerTo
+no-answer w (Mesh columns rows) h = refl
+no-answer w (Fault p) h = refl
+no-answer w (Send s d) (inl e) = absurd (omega arith)
+no-answer w (Send s d) (inr (inl e)) = absurd (omega arith)
+no-answer w (Send s d) (inr (inr e)) = absurd (omega arith)
+no-answer w Malformed h = refl
 
-  pub answer-late : 65535 < n → Ends s x out at (line lineWord n) after → Answers (lineStep n (stateOf s map) (ended text)) out at x map marks after
-  unfolding lineStep
-  answer-late h e = rw (lt-leb n 65535 h) (bad e)
+-- line n was read as c, changed the sheet to x, and what it says is told
+module _ (n : ℕ) (s : Sheet) (text map : List ℕ) {c : Command} (is-c : c ≡ commandAt n text) {x : Change} {map′ : List ℕ} (changed : Changes (λ n. change n (stateOf s map) c) x map′) where
+  line-changes : lineStep n (stateOf s map) (ended text) ≡ answering c (stepOf n x map′)
+  unfolding lineStep commandOf
+  line-changes = rw (← is-c) (ap (answering c) (changed .steps n))
 
-module _ (n : ℕ) (s : Sheet) (text map : List ℕ) {out : List ℕ} {at : ℕ} {x : Answered} {map′ marks after : List ℕ} {c : Command} (h : n ≤ 65535) (is-c : c ≡ command text) where
-  by-command : Answers (commandStep n (stateOf s map) c) out at x map′ marks after → Answers (lineStep n (stateOf s map) (ended text)) out at x map′ marks after
-  unfolding lineStep
-  by-command a = rw (le-leb n 65535 h, ← is-c) a
+  module _ {out : List ℕ} {at y : ℕ} {after : List ℕ} (told : Puts out at (saysLine n (x .says)) y after) {b : Bool} (is-b : b ≡ saysEnds (x .says)) where
+    pub ends-here : b ≡ true → Answers (lineStep n (stateOf s map) (ended text)) out at (record { sheet = x .sheet; at = y; ends = true }) map′ after
+    unfolding answering
+    ends-here t =
+        rw (line-changes, sym is-b ∙ t)
+        (record { puts = told; ends = refl; next = refl; ready = λ f. true-false refl f })
 
-  pub answer-mesh : (columns rows : ℕ) → c ≡ Mesh columns rows → 4096 ≤ length marks → StepsMap (meshLine (s .phase) n (stateOf s map) columns rows) out at x map′ after → Answers (lineStep n (stateOf s map) (ended text)) out at x map′ marks after
-  unfolding commandStep
-  answer-mesh columns rows e room p = by-command (rw e (steps-answers room p))
+    module _ (f : b ≡ false) where
+      pub not-a-send : OneOf (0 ∷ 1 ∷ 3 ∷ []) (tagOf the-type c) → Answers (lineStep n (stateOf s map) (ended text)) out at (record { sheet = x .sheet; at = y; ends = false }) map′ after
+      unfolding answering
+      not-a-send h =
+          rw (line-changes, sym is-b ∙ f, no-answer _ c h, append-nil)
+          (record { puts = told; ends = refl; next = refl; ready = λ g. changed .ready (sym is-b ∙ f) })
 
-  pub answer-fault : (p : Place) → c ≡ Fault p → 4096 ≤ length marks → StepsMap (faultLine (s .phase) n (stateOf s map) p) out at x map′ after → Answers (lineStep n (stateOf s map) (ended text)) out at x map′ marks after
-  unfolding commandStep
-  answer-fault p e room q = by-command (rw e (steps-answers room q))
+      -- the map is marked, and there is room for the answer
+      module _ (p q : Place) (e : c ≡ Send p q) where
+        sends-begun : x .sheet .phase ≡ Sends
+        unfolding change
+        sends-begun =
+            let opened = rw e at (changed .steps n) in
+            ap (λ z. z .next .phase) (sym opened) ∙ opened-sends n (stateOf s map) (ap (λ z. z .ends) opened ∙ sym is-b ∙ f)
 
-  pub answer-send : (from to : Place) → c ≡ Send from to → Answers (sendLine (s .phase) n (stateOf s map) from to) out at x map′ marks after → Answers (lineStep n (stateOf s map) (ended text)) out at x map′ marks after
-  unfolding commandStep
-  answer-send from to e a = by-command (rw e a)
+        pub can-answer : n < 100000 → at + answerRoom ≤ length out →
+            Marking (x .sheet .columns) (x .sheet .rows) (mapOf (x .sheet) map′) × (4096 ≤ length map′) × (y + sendRoom ≤ length after)
+        can-answer h fits =
+            let ready = changed .ready (sym is-b ∙ f) in
+            let size = ap length (told .stands) ∙ over-length out at (saysLine n (x .says)) in
+            (ready .sends sends-begun, ready .room, omega (arith, told .next, says-short n (x .says) h (changed .few)))
 
-module _ (n : ℕ) (s : Sheet) (text map : List ℕ) {out : List ℕ} {at : ℕ} {x : Answered} {marks after : List ℕ} {c : Command} where
-  pub answer-malformed : n ≤ 65535 → c ≡ command text → c ≡ Malformed → Ends s x out at (line lineWord n) after → Answers (lineStep n (stateOf s map) (ended text)) out at x map marks after
-  unfolding commandStep
-  answer-malformed h is-c e q = by-command n s text map h is-c (rw e (bad n s text map q))
+        pub send-answered : {z : ℕ} {end : List ℕ} → Puts after y (sendAnswer (mesh (x .sheet .columns) (x .sheet .rows) (mapOf (x .sheet) map′)) p q) z end →
+            Answers (lineStep n (stateOf s map) (ended text)) out at (record { sheet = x .sheet; at = z; ends = false }) map′ end
+        unfolding answering answerTo
+        send-answered answer =
+            rw (line-changes, sym is-b ∙ f, e)
+            (record { puts = puts-append told answer; ends = refl; next = refl; ready = λ g. changed .ready (sym is-b ∙ f) })
+
+-- the end of a sheet, where its opening is told
+pub end-told : (n : ℕ) (s : Sheet) (map : List ℕ) {x : Change} {map′ out : List ℕ} {at y : ℕ} {after : List ℕ} → Changes (λ n. opening (s .phase) n (stateOf s map)) x map′ →
+    Puts out at (saysLine n (x .says)) y after → Puts out at (atEnd n (stateOf s map)) y after
+unfolding atEnd
+end-told n s map changed told = rw (changed .steps n, atEnd) told

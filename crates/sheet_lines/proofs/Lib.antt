@@ -1,4 +1,2 @@
-pub mod Phases
-pub mod Faults
 pub mod Sends
 pub mod Answering

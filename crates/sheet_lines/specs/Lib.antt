@@ -1,4 +1,1 @@
-pub mod Sheet
-pub mod Keeping
-pub mod Cases
-pub mod Room
+pub mod Answers

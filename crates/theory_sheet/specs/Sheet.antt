@@ -124,15 +124,15 @@ unfoldable pub sendAnswer : MeshOf → Place → Place → List ℕ
 sendAnswer w s d = answerOf (first (requestTests w s d)) (letters (hopsOf w s d))
 
 -- only sends are answered
-unfoldable pub answer : MeshOf → Command → List ℕ
-answer w (Mesh columns rows) = []
-answer w (Fault p) = []
-answer w (Send s d) = sendAnswer w s d
-answer w Malformed = []
+unfoldable pub answerTo : MeshOf → Command → List ℕ
+answerTo w (Mesh columns rows) = []
+answerTo w (Fault p) = []
+answerTo w (Send s d) = sendAnswer w s d
+answerTo w Malformed = []
 
 -- a line's answer, unless it ends the run
 unfoldable pub answering : Command → Step → Step
-answering c x = let on = saying (x .printed ++ answer (meshOf (x .next)) c) (x .next) in cond (x .ends) x on
+answering c x = let on = saying (x .printed ++ answerTo (meshOf (x .next)) c) (x .next) in cond (x .ends) x on
 
 -- a line without its newline is malformed
 unfoldable pub commandOf : ℕ → Line → Command
