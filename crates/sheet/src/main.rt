@@ -2,24 +2,16 @@
 ghost use mathlib.Core.Path.{_≡_};
 ghost use Prim.Native.Nat.{_≤_};
 ghost use lib.ListN.{length};
-ghost use Rattle.theory_walk.specs.Claims.{mostHops};
-ghost use Rattle.sheet_lines.specs.Room.{answerRoom};
-ghost use Rattle.sheet_reader.specs.Reading.{readerOf, Reading, TakesBytes, Finishing};
+ghost use Rattle.sheet_lines.specs.Answers.{answerRoom};
+ghost use Rattle.sheet_reader.specs.Reading.{readerOf, Reading};
 ghost use Rattle.sheet.specs.Program.{Answers, Reads, goesOn, ReadsAll};
 use libc::STDERR_FILENO;
 use libc::STDIN_FILENO;
 use libc::STDOUT_FILENO;
 use sheet_reader::Reader;
-use sheet_reader::Taken;
 use sheet_reader::begin;
 use sheet_reader::finish;
 use sheet_reader::take_bytes;
-
-// Some bytes taken, and whether their answers could be written.
-struct Part {
-    taken: Taken,
-    written: bool,
-}
 
 // The reader after some bytes, and whether their answers could be written.
 struct Answered {
@@ -35,51 +27,24 @@ struct Read {
     written: bool,
 }
 
-// Answers as many bytes as there is room for, and writes the answers.
-fn answer_part(
-    reader: Reader,
-    bytes: &[u8],
-    hold: &mut [u8],
-    map: &mut [u8],
-    marks: &mut [u8],
-    letters: &mut [u8],
-    out: &mut [u8],
-) -> Part
-    requires { ⌜ Reading reader (now hold) (now map) (now marks) × (mostHops ≤ length (now letters)) × (answerRoom ≤ length (now out)) ⌝ }
-    ensures { λ x. ⌜ TakesBytes (readerOf reader (now (hold .entry)) (now (map .entry))) (now (bytes .entry)) (now (out .entry)) (x .taken) (now (hold .exit)) (now (map .exit)) (now (marks .exit)) (now (out .exit)) ⌝ }
-{
-    let taken = take_bytes(reader, bytes, hold, map, marks, letters, out);
-    let written = io::write_all(STDOUT_FILENO, &out[..taken.at]);
-    Part { taken, written }
-}
-
-// Answers bytes of the sheet, part by part.
-fn answer_some(
-    reader: Reader,
-    bytes: &[u8],
-    hold: &mut [u8],
-    map: &mut [u8],
-    marks: &mut [u8],
-    letters: &mut [u8],
-    out: &mut [u8],
-) -> Answered
-    requires { ⌜ Reading reader (now hold) (now map) (now marks) × (mostHops ≤ length (now letters)) × (answerRoom ≤ length (now out)) ⌝ }
-    ensures { λ x. ⌜ Answers (readerOf reader (now (hold .entry)) (now (map .entry))) (now (bytes .entry)) (x .reader) (x .written) (now (hold .exit)) (now (map .exit)) (now (marks .exit)) ⌝ }
+// Answers bytes of the sheet, as many at a time as there is room for, and writes the answers.
+fn answer_some(reader: Reader, bytes: &[u8], map: &mut [u8], out: &mut [u8]) -> Answered
+    requires { ⌜ Reading reader (now map) × (answerRoom ≤ length (now out)) ⌝ }
+    ensures { λ x. ⌜ Answers (readerOf reader (now (map .entry))) (now (bytes .entry)) (x .reader) (x .written) (now (map .exit)) ⌝ }
 {
     let n = bytes.len();
     let mut r = reader;
     let mut used = 0;
     while used < n {
-        if r.over {
+        if r.standing.over {
             return Answered {
                 reader: r,
                 written: true,
             };
         }
-        let part = answer_part(r, &bytes[used..], hold, map, marks, letters, out);
-        let taken = part.taken;
+        let taken = take_bytes(r, &bytes[used..], map, out);
         r = taken.reader;
-        if !part.written {
+        if !io::write_all(STDOUT_FILENO, &out[..taken.at]) {
             return Answered {
                 reader: r,
                 written: false,
@@ -94,21 +59,13 @@ fn answer_some(
 }
 
 // Reads once, and answers what came.
-fn read_some(
-    reader: Reader,
-    chunk: &mut [u8],
-    hold: &mut [u8],
-    map: &mut [u8],
-    marks: &mut [u8],
-    letters: &mut [u8],
-    out: &mut [u8],
-) -> Read
-    requires { ⌜ Reading reader (now hold) (now map) (now marks) × (mostHops ≤ length (now letters)) × (answerRoom ≤ length (now out)) ⌝ }
-    ensures { λ x. ⌜ Reads (readerOf reader (now (hold .entry)) (now (map .entry))) x (now (chunk .exit)) (now (hold .exit)) (now (map .exit)) (now (marks .exit)) ⌝ }
+fn read_some(reader: Reader, chunk: &mut [u8], map: &mut [u8], out: &mut [u8]) -> Read
+    requires { ⌜ Reading reader (now map) × (answerRoom ≤ length (now out)) ⌝ }
+    ensures { λ x. ⌜ Reads (readerOf reader (now (map .entry))) x (now (chunk .exit)) (now (map .exit)) ⌝ }
 {
     let got = libc::read(STDIN_FILENO, chunk);
     let came = io::count(got, chunk);
-    let answered = answer_some(reader, &chunk[..came], hold, map, marks, letters, out);
+    let answered = answer_some(reader, &chunk[..came], map, out);
     let next = answered.reader;
     Read {
         came,
@@ -126,27 +83,20 @@ fn reads_on(read: Read) -> bool
         return false;
     }
     let reader = read.reader;
-    if reader.over {
+    if reader.standing.over {
         return false;
     }
     read.written
 }
 
 // Reads and answers to the end of the input or of the run, or until a read or a write fails.
-fn read_all(
-    chunk: &mut [u8],
-    hold: &mut [u8],
-    map: &mut [u8],
-    marks: &mut [u8],
-    letters: &mut [u8],
-    out: &mut [u8],
-) -> Read
-    requires { ⌜ (20 ≤ length (now hold)) × (4096 ≤ length (now map)) × (4096 ≤ length (now marks)) × (mostHops ≤ length (now letters)) × (answerRoom ≤ length (now out)) ⌝ }
-    ensures { λ x. ⌜ ReadsAll x (now (hold .exit)) (now (map .exit)) (now (marks .exit)) ⌝ }
+fn read_all(chunk: &mut [u8], map: &mut [u8], out: &mut [u8]) -> Read
+    requires { ⌜ (4096 ≤ length (now map)) × (answerRoom ≤ length (now out)) ⌝ }
+    ensures { λ x. ⌜ ReadsAll x (now (map .exit)) ⌝ }
 {
     let mut r = begin();
     loop {
-        let read = read_some(r, chunk, hold, map, marks, letters, out);
+        let read = read_some(r, chunk, map, out);
         if !reads_on(read) {
             return read;
         }
@@ -160,8 +110,8 @@ fn tell_unwritten() {
 }
 
 // The end of the sheet, once all of it is read. Where a read or a write failed a message says so, and nothing more is printed.
-fn end_sheet(last: Read, map: &[u8], marks: &mut [u8], out: &mut [u8])
-    requires { ⌜ Finishing (last .reader) (now map) (now marks) × (answerRoom ≤ length (now out)) ⌝ }
+fn end_sheet(last: Read, map: &mut [u8], out: &mut [u8])
+    requires { ⌜ Reading (last .reader) (now map) × (answerRoom ≤ length (now out)) ⌝ }
 {
     if last.failed {
         io::write_all(STDERR_FILENO, b"sheet: cannot read\n");
@@ -171,40 +121,23 @@ fn end_sheet(last: Read, map: &[u8], marks: &mut [u8], out: &mut [u8])
         tell_unwritten();
         return;
     }
-    let at = finish(last.reader, map, marks, out, 0);
+    let at = finish(last.reader, map, out, 0);
     if !io::write_all(STDOUT_FILENO, &out[..at]) {
         tell_unwritten();
     }
 }
 
 // The whole sheet.
-fn run(
-    chunk: &mut [u8],
-    hold: &mut [u8],
-    map: &mut [u8],
-    marks: &mut [u8],
-    letters: &mut [u8],
-    out: &mut [u8],
-)
-    requires { ⌜ (20 ≤ length (now hold)) × (4096 ≤ length (now map)) × (4096 ≤ length (now marks)) × (mostHops ≤ length (now letters)) × (answerRoom ≤ length (now out)) ⌝ }
+fn run(chunk: &mut [u8], map: &mut [u8], out: &mut [u8])
+    requires { ⌜ (4096 ≤ length (now map)) × (answerRoom ≤ length (now out)) ⌝ }
 {
-    let last = read_all(chunk, hold, map, marks, letters, out);
-    end_sheet(last, map, marks, out);
+    let last = read_all(chunk, map, out);
+    end_sheet(last, map, out);
 }
 
 fn main() {
     let mut chunk = io::large_buffer();
-    let mut hold = [0u8; 20];
     let mut map = io::buffer();
-    let mut marks = io::buffer();
-    let mut letters = io::buffer();
     let mut out = io::large_buffer();
-    run(
-        &mut chunk,
-        &mut hold,
-        &mut map,
-        &mut marks,
-        &mut letters,
-        &mut out,
-    );
+    run(&mut chunk, &mut map, &mut out);
 }

@@ -16,12 +16,11 @@ use Rattle.buffers.proofs.Over.{puts-append, over-length}
 use Rattle.blocks.specs.Marking.{Marking}
 use Rattle.sheet_words.specs.declared.Command.{Command}
 use Rattle.sheet_words.specs.declared.Command.the-variants.{Mesh, Fault, Send, Malformed}
-use Rattle.sheet_words.specs.Words.{commandAt}
 use Rattle.sheet_words.proofs.Command.{the-type}
 use Rattle.sheet_prints.specs.Prints.{lineWord, noWord, blocksWord}
 use Rattle.sheet_prints.proofs.Lines.{line-length}
 use Rattle.theory_sheet.specs.declared.Phase.the-variants.{Sends}
-use Rattle.theory_sheet.specs.Sheet.{opening, change, sendAnswer, answerTo, answering, commandOf, lineStep, atEnd}
+use Rattle.theory_sheet.specs.Sheet.{opening, change, sendAnswer, answerTo, answering, commandStep, atEnd}
 use Rattle.theory_sheet.proofs.Opening.{opened-sends}
 use Rattle.sheet_state.specs.declared.Sheet.{Sheet}
 use Rattle.sheet_state.specs.declared.Says.{Says}
@@ -29,7 +28,7 @@ use Rattle.sheet_state.specs.declared.Says.the-variants.{BadLine, Refusal, Bloc
 use Rattle.sheet_state.specs.declared.Change.{Change}
 use Rattle.sheet_state.specs.Keeping.{mapOf, stateOf, Ready, saysLine, saysEnds, saysNumber, stepOf, Changes}
 use Rattle.sheet_lines.specs.declared.Answered.{Answered}
-use Rattle.sheet_lines.specs.Answers.{sendRoom, answerRoom, ended, Answers}
+use Rattle.sheet_lines.specs.Answers.{sendRoom, answerRoom, Answers}
 
 says-short : (n : ℕ) (x : Says) → n < 100000 → saysNumber x < 100000 → length (saysLine n x) ≤ 13
 says-short n BadLine h k = omega (arith, line-length lineWord n h)
@@ -47,21 +46,21 @@ no-answer w (Send s d) (inr (inl e)) = absurd (omega arith)
 no-answer w (Send s d) (inr (inr e)) = absurd (omega arith)
 no-answer w Malformed h = refl
 
--- line n was read as c, changed the sheet to x, and what it says is told
-module _ (n : ℕ) (s : Sheet) (text map : List ℕ) {c : Command} (is-c : c ≡ commandAt n text) {x : Change} {map′ : List ℕ} (changed : Changes (λ n. change n (stateOf s map) c) x map′) where
-  line-changes : lineStep n (stateOf s map) (ended text) ≡ answering c (stepOf n x map′)
-  unfolding lineStep commandOf
-  line-changes = rw (← is-c) (ap (answering c) (changed .steps n))
+-- line n says c, which changes the sheet to x
+module _ (n : ℕ) (s : Sheet) (map : List ℕ) (c : Command) {x : Change} {map′ : List ℕ} (changed : Changes (λ n. change n (stateOf s map) c) x map′) where
+  line-changes : commandStep n (stateOf s map) c ≡ answering c (stepOf n x map′)
+  unfolding commandStep
+  line-changes = ap (answering c) (changed .steps n)
 
   module _ {out : List ℕ} {at y : ℕ} {after : List ℕ} (told : Puts out at (saysLine n (x .says)) y after) {b : Bool} (is-b : b ≡ saysEnds (x .says)) where
-    pub ends-here : b ≡ true → Answers (lineStep n (stateOf s map) (ended text)) out at (record { sheet = x .sheet; at = y; ends = true }) map′ after
+    pub ends-here : b ≡ true → Answers (commandStep n (stateOf s map) c) out at (record { sheet = x .sheet; at = y; ends = true }) map′ after
     unfolding answering
     ends-here t =
         rw (line-changes, sym is-b ∙ t)
         (record { puts = told; ends = refl; next = refl; ready = λ f. true-false refl f })
 
     module _ (f : b ≡ false) where
-      pub not-a-send : OneOf (0 ∷ 1 ∷ 3 ∷ []) (tagOf the-type c) → Answers (lineStep n (stateOf s map) (ended text)) out at (record { sheet = x .sheet; at = y; ends = false }) map′ after
+      pub not-a-send : OneOf (0 ∷ 1 ∷ 3 ∷ []) (tagOf the-type c) → Answers (commandStep n (stateOf s map) c) out at (record { sheet = x .sheet; at = y; ends = false }) map′ after
       unfolding answering
       not-a-send h =
           rw (line-changes, sym is-b ∙ f, no-answer _ c h, append-nil)
@@ -83,7 +82,7 @@ module _ (n : ℕ) (s : Sheet) (text map : List ℕ) {c : Command} (is-c : c ≡
             (ready .sends sends-begun, ready .room, omega (arith, told .next, says-short n (x .says) h (changed .few)))
 
         pub send-answered : {z : ℕ} {end : List ℕ} → Puts after y (sendAnswer (mesh (x .sheet .columns) (x .sheet .rows) (mapOf (x .sheet) map′)) p q) z end →
-            Answers (lineStep n (stateOf s map) (ended text)) out at (record { sheet = x .sheet; at = z; ends = false }) map′ end
+            Answers (commandStep n (stateOf s map) c) out at (record { sheet = x .sheet; at = z; ends = false }) map′ end
         unfolding answering answerTo
         send-answered answer =
             rw (line-changes, sym is-b ∙ f, e)

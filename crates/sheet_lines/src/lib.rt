@@ -6,9 +6,9 @@ ghost use Rattle.mesh.specs.Mesh.{mesh};
 ghost use Rattle.theory_walk.specs.Claims.{mostHops};
 ghost use Rattle.buffers.specs.Over.{Puts};
 ghost use Rattle.blocks.specs.Marking.{Marking};
-ghost use Rattle.theory_sheet.specs.Sheet.{sendAnswer, lineStep, atEnd};
+ghost use Rattle.theory_sheet.specs.Sheet.{sendAnswer, commandStep, atEnd};
 ghost use Rattle.sheet_state.specs.Keeping.{mapOf, stateOf, Ready, saysLine, saysEnds, saysNumber};
-ghost use Rattle.sheet_lines.specs.Answers.{sendRoom, answerRoom, ended, Answers};
+ghost use Rattle.sheet_lines.specs.Answers.{sendRoom, answerRoom, Answers};
 use mesh::Place;
 use mesh::Routed;
 use numbers::refusal_number;
@@ -22,7 +22,6 @@ use sheet_state::Sheet;
 use sheet_state::open_sends;
 use sheet_state::take_line;
 use sheet_words::Command;
-use sheet_words::read_line;
 use walk::MOST_HOPS;
 
 // Room for all that is printed for a line.
@@ -81,20 +80,19 @@ fn answer_send(
     }
 }
 
-// A line with its newline, without which text is given.
+// Line `number`, by what it says.
 pub fn answer_line(
     sheet: Sheet,
     number: u32,
-    text: &[u8],
+    command: Command,
     map: &mut [u8],
     letters: &mut [u8],
     out: &mut [u8],
     at: usize,
 ) -> Answered
     requires { ⌜ Ready sheet (now map) × (number < 100000) × (mostHops ≤ length (now letters)) × (at + answerRoom ≤ length (now out)) ⌝ }
-    ensures { λ x. ⌜ Answers (lineStep number (stateOf sheet (now (map .entry))) (ended (now (text .entry)))) (now (out .entry)) at x (now (map .exit)) (now (out .exit)) ⌝ }
+    ensures { λ x. ⌜ Answers (commandStep number (stateOf sheet (now (map .entry))) command) (now (out .entry)) at x (now (map .exit)) (now (out .exit)) ⌝ }
 {
-    let command = read_line(number, text);
     let change = take_line(sheet, command, map);
     let after = change.sheet;
     let says = change.says;

@@ -1,5 +1,3 @@
-pub mod Lines
-pub mod Theorems
-pub mod Ends
-pub mod Feeding
-pub mod Progress
+pub mod Answering
+pub mod Taking
+pub mod Ending

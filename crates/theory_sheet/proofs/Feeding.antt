@@ -10,12 +10,9 @@ use lib.Dec.{leb}
 use lib.ListN.{length, getD, take, length-append}
 use Rattle.mesh.proofs.Bools.{value, true-false}
 use Rattle.sheet_words.specs.Words.{commandAt}
-use Rattle.theory_sheet.specs.Sheet.{State, change, answering, commandOf, lineStep}
-use Rattle.theory_sheet.specs.Reader.{Reader, Fed, afterLine, feed, feedAll}
+use Rattle.theory_sheet.specs.Sheet.{State, change, answering, commandStep}
+use Rattle.theory_sheet.specs.Reader.{Reader, reading, Fed, afterLine, feed, feedAll}
 use Rattle.theory_sheet.proofs.Lines.{Unbroken}
-
-abbrev pub reading : ℕ → State → List ℕ → Bool → Reader
-reading n t xs b = record { number = n; state = t; held = xs; over = b }
 
 -- one thing fed, and then another
 abbrev pub fedAfter : Fed → Fed → Fed
@@ -48,7 +45,7 @@ fed-one r (x ∷ xs) on some = rw (on, append-nil)
 
 -- at most 20 bytes without a newline, then one: a whole line
 pub line-fed : (n : ℕ) (t : State) (h xs : List ℕ) (x : ℕ) → Unbroken xs → x ≡ 10 → length h + length xs ≤ 20 →
-    feedAll (reading n t h false) (xs ++ (x ∷ [])) ≡ afterLine n (lineStep n t (record { text = h ++ xs; ended = true }))
+    feedAll (reading n t h) (xs ++ (x ∷ [])) ≡ afterLine n t (commandAt n (h ++ xs))
 unfolding Unbroken feedAll feed
 line-fed n t h [] x u e l = rw (eq-eqb x 10 e, append-nil, append-nil)
 line-fed n t h (y ∷ xs) x u e l =
@@ -56,7 +53,7 @@ line-fed n t h (y ∷ xs) x u e l =
     rw (u .0, lt-leb 20 (length h) (omega arith), rest, append-assoc h (y ∷ []) xs)
 
 -- only a line that is at most the 65,535th lets the run go on
-pub goes-on-early : (n : ℕ) (t : State) (text : List ℕ) → lineStep n t (record { text = text; ended = true }) .ends ≡ false → n ≤ 65535
-unfolding lineStep answering change commandOf commandAt
+pub goes-on-early : (n : ℕ) (t : State) (text : List ℕ) → commandStep n t (commandAt n text) .ends ≡ false → n ≤ 65535
+unfolding commandStep answering change commandAt
 goes-on-early n t text e =
     elim (value (leb n 65535)) [ inl f ↦ leb-true n 65535 f | inr f ↦ true-false refl (rw f at e) ]

@@ -9,6 +9,7 @@ use borrow.Author.Tests.{leb-false}
 use lib.Dec.{leb, eqb}
 use lib.ListN.{length, length-append}
 use Rattle.mesh.proofs.Bools.{value, true-false}
+use Rattle.theory_sheet.specs.Sheet.{change, answering, commandStep}
 use Rattle.theory_sheet.specs.Reader.{Reader, begun, feed, feedAll}
 use Rattle.theory_sheet.proofs.Feeding.{rests, goes-on, goes-on-early}
 
@@ -22,7 +23,7 @@ abbrev pub most : Reader → ℕ
 most r = (65537 - r .number) * 21 - length (r .held)
 
 feed-less : (r : Reader) (x : ℕ) → Within r → feed r x .next .over ≡ false → Within (feed r x .next) × (most (feed r x .next) < most r)
-unfolding feed
+unfolding feed commandStep answering change
 feed-less r x w on =
     elim (value (eqb x 10)) [
       | inl e ↦

@@ -20,7 +20,7 @@ use Rattle.mesh.specs.Cases.{bytes}
 use Rattle.sheet_words.specs.Words as words
 use Rattle.sheet_words.specs.Words.{isDigit, more, number, spaced, second, two, begins, ended, sizes, fault, sendTo, send, command, commandAt}
 use Rattle.sheet_prints.specs.Prints.{digits, decimal, line, spacedLetters, okLine}
-use Rattle.theory_sheet.specs.Sheet.{before, linesOf, meshLine, faultLine, isMisplaced, blocksLine, opening, change, answerOf, sendAnswer, answerTo, answering, commandOf, lineStep, atEnd, answers, sheet}
+use Rattle.theory_sheet.specs.Sheet.{before, linesOf, meshLine, faultLine, isMisplaced, blocksLine, opening, change, answerOf, sendAnswer, answerTo, answering, commandStep, commandOf, lineStep, atEnd, answers, sheet}
 
 -- a sheet, and what is printed for it
 pub record Case : Type 0 where
@@ -54,5 +54,5 @@ cases =
     []
 
 pub cases-print : T (allPrint cases)
-unfolding cases allPrint sheet answers atEnd lineStep commandOf answering answerTo sendAnswer answerOf change opening blocksLine isMisplaced faultLine meshLine linesOf before okLine spacedLetters line decimal digits commandAt command send sendTo fault sizes ended begins two words.first second spaced number more isDigit bytes hopsOf requestTests tripTests placeTests unserved onARing inBlock offMesh misplaced misplacedAt some badSize allowed bound detours distance shutIn walk hopAt arrived moved hop otherRow nearing across leaving inRow atDestination again stopped own toward side blocked onSomeRing onRing reaches blocks select blockAt corner run settle sameList round advance become unsafe ruleB ruleA upright ahead bad isBad first turnsWest letters columnAfter rowAfter onMesh
+unfolding cases allPrint sheet answers atEnd lineStep commandOf commandStep answering answerTo sendAnswer answerOf change opening blocksLine isMisplaced faultLine meshLine linesOf before okLine spacedLetters line decimal digits commandAt command send sendTo fault sizes ended begins two words.first second spaced number more isDigit bytes hopsOf requestTests tripTests placeTests unserved onARing inBlock offMesh misplaced misplacedAt some badSize allowed bound detours distance shutIn walk hopAt arrived moved hop otherRow nearing across leaving inRow atDestination again stopped own toward side blocked onSomeRing onRing reaches blocks select blockAt corner run settle sameList round advance become unsafe ruleB ruleA upright ahead bad isBad first turnsWest letters columnAfter rowAfter onMesh
 cases-print = tt

@@ -5,7 +5,10 @@ use Prim.Native.Nat.{ℕ, suc}
 use lib.Dec.{leb, eqb}
 use lib.ListN.{length}
 use Rattle.sheet_prints.specs.Prints.{line, lineWord}
-use Rattle.theory_sheet.specs.Sheet.{State, nothing, Step, lineStep, atEnd}
+use Rattle.sheet_words.specs.declared.Command.{Command}
+use Rattle.sheet_words.specs.declared.Command.the-variants.{Malformed}
+use Rattle.sheet_words.specs.Words.{commandAt}
+use Rattle.theory_sheet.specs.Sheet.{State, nothing, commandStep, atEnd}
 
 -- the number of the line being read, what the lines before it have said, what is held of it, and whether the run is over
 pub record Reader : Type 0 where
@@ -14,42 +17,39 @@ pub record Reader : Type 0 where
   pub held : List ℕ
   pub over : Bool
 
+-- in the middle of a run
+abbrev pub reading : ℕ → State → List ℕ → Reader
+reading n t xs = record { number = n; state = t; held = xs; over = false }
+
 abbrev pub begun : Reader
-begun = record { number = 1; state = nothing; held = []; over = false }
+begun = reading 1 nothing []
 
 -- what is printed, and the reader after it
 pub record Fed : Type 0 where
   pub printed : List ℕ
   pub next : Reader
 
--- after a line
-abbrev pub afterLine : ℕ → Step → Fed
-afterLine n s =
+-- after line n, which says c
+abbrev pub afterLine : ℕ → State → Command → Fed
+afterLine n t c =
     record {
-      printed = s .printed;
-      next = record { number = suc n; state = s .next; held = []; over = s .ends };
+      printed = commandStep n t c .printed;
+      next = record { number = suc n; state = commandStep n t c .next; held = []; over = commandStep n t c .ends };
     }
 
--- a line that is too long, whatever follows
-abbrev pub tooLong : Reader → Fed
-tooLong r =
-    record {
-      printed = line lineWord (r .number);
-      next = record { number = r .number; state = r .state; held = r .held; over = true };
-    }
-
-abbrev pub hold : Reader → ℕ → Fed
-hold r x =
+-- a byte that is held
+abbrev pub holding : Reader → ℕ → Fed
+holding r x =
     record {
       printed = [];
-      next = record { number = r .number; state = r .state; held = r .held ++ (x ∷ []); over = false };
+      next = record { number = r .number; state = r .state; held = r .held ++ (x ∷ []); over = r .over };
     }
 
--- one byte: a newline ends the line; no well-formed line has more than 20 bytes before it
+-- one byte: a newline ends the line; a line of 20 bytes that goes on is malformed, whatever follows
 unfoldable pub feed : Reader → ℕ → Fed
 feed r x =
-    cond (eqb x 10) (afterLine (r .number) (lineStep (r .number) (r .state) (record { text = r .held; ended = true })))
-    (cond (leb 20 (length (r .held))) (tooLong r) (hold r x))
+    cond (eqb x 10) (afterLine (r .number) (r .state) (commandAt (r .number) (r .held)))
+    (cond (leb 20 (length (r .held))) (afterLine (r .number) (r .state) Malformed) (holding r x))
 
 -- bytes in turn, until the run is over
 unfoldable pub feedAll : Reader → List ℕ → Fed

@@ -130,16 +130,19 @@ answerTo w (Fault p) = []
 answerTo w (Send s d) = sendAnswer w s d
 answerTo w Malformed = []
 
--- a line's answer, unless it ends the run
+-- what a line says, and its answer unless it ends the run
 unfoldable pub answering : Command → Step → Step
 answering c x = let on = saying (x .printed ++ answerTo (meshOf (x .next)) c) (x .next) in cond (x .ends) x on
+
+unfoldable pub commandStep : ℕ → State → Command → Step
+commandStep n t c = answering c (change n t c)
 
 -- a line without its newline is malformed
 unfoldable pub commandOf : ℕ → Line → Command
 commandOf n l = cond (l .ended) (commandAt n (l .text)) Malformed
 
 unfoldable pub lineStep : ℕ → State → Line → Step
-lineStep n t l = answering (commandOf n l) (change n t (commandOf n l))
+lineStep n t l = commandStep n t (commandOf n l)
 
 -- at the end of the sheet, n being the number of the line after the last
 unfoldable pub atEnd : ℕ → State → List ℕ

@@ -5,16 +5,13 @@ use Rattle.sheet_lines.proofs.Answering.{ends-here, not-a-send, can-ans
 use Rattle.sheet_lines.proofs.answer_line.Statement.{statement}
 use Rattle.sheet_lines.proofs.answer_line.Tie as tie
 
-read-line-requires : tie.Need-read-line-requires
-read-line-requires c κs = tt
-
 take-line-requires : tie.Need-take-line-requires
-take-line-requires c κs = c .before .before .before .before .before .before .pre .0
+take-line-requires c κs = c .before .before .before .before .pre .0
 
 tell-requires : tie.Need-tell-requires
 tell-requires c κs =
     let taken = c .before .before .before .before in
-    let (_, few, _, room) = taken .before .before .before .before .before .before .before .pre in
+    let (_, few, _, room) = taken .before .before .before .before .before .pre in
     (taken .take-line .ensures .few, few, omega arith)
 
 ends-run-requires : tie.Need-ends-run-requires
@@ -31,8 +28,7 @@ returns c =
     let asked = c .before in
     let told = asked .before .before .before in
     let taken = told .before .before .before .before .before in
-    let line-read = taken .before .before in
-    ends-here _ _ _ _ (line-read .read-line .ensures) (taken .take-line .ensures) (told .tell .ensures) (asked .ends-run .ensures) (c .if1 .taken)
+    ends-here _ _ _ _ (taken .take-line .ensures) (told .tell .ensures) (asked .ends-run .ensures) (c .if1 .taken)
 
 enum-known-command : tie.Need-enum-known-command
 enum-known-command c = search needs
@@ -44,9 +40,8 @@ answer-send-requires c κs =
     let asked = goes-on .before in
     let told = asked .before .before .before in
     let taken = told .before .before .before .before .before in
-    let line-read = taken .before .before in
-    let (_, few, letters, room) = line-read .before .before .before .before .before .pre in
-    let (marking, size, fits) = can-answer _ _ _ _ (line-read .read-line .ensures) (taken .take-line .ensures) (told .tell .ensures) (asked .ends-run .ensures) (goes-on .if1 .left) _ _ (known .command .given .1) few room in
+    let (_, few, letters, room) = taken .before .before .before .before .before .pre in
+    let (marking, size, fits) = can-answer _ _ _ _ (taken .take-line .ensures) (told .tell .ensures) (asked .ends-run .ensures) (goes-on .if1 .left) _ _ (known .command .given .1) few room in
     (marking, size, letters, fits)
 
 same-length-3 : tie.Need-same-length-3
@@ -66,8 +61,7 @@ returns-2 c =
     let asked = goes-on .before in
     let told = asked .before .before .before in
     let taken = told .before .before .before .before .before in
-    let line-read = taken .before .before in
-    send-answered _ _ _ _ (line-read .read-line .ensures) (taken .take-line .ensures) (told .tell .ensures) (asked .ends-run .ensures)
+    send-answered _ _ _ _ (taken .take-line .ensures) (told .tell .ensures) (asked .ends-run .ensures)
     (goes-on .if1 .left) _ _ (known .command .given .1) (answered .answer-send .ensures)
 
 same-length-6 : tie.Need-same-length-6
@@ -82,15 +76,13 @@ returns-3 c =
     let asked = goes-on .before in
     let told = asked .before .before .before in
     let taken = told .before .before .before .before .before in
-    let line-read = taken .before .before in
-    not-a-send _ _ _ _ (line-read .read-line .ensures) (taken .take-line .ensures) (told .tell .ensures) (asked .ends-run .ensures)
+    not-a-send _ _ _ _ (taken .take-line .ensures) (told .tell .ensures) (asked .ends-run .ensures)
     (goes-on .if1 .left) (c .match .keys2)
 
 pub answer-line-spec : {M : Type 1} → statement M
 answer-line-spec =
     tie.close
     (tie.spec
-    read-line-requires
     take-line-requires
     tell-requires
     ends-run-requires

@@ -1,12 +1,23 @@
--- Nothing is said, nothing is held. Assumes nothing.
+-- Nothing is said, and nothing is held. Assumes nothing.
 use mathlib.Core.Path.{refl}
 use native.Mathlib.Omega.{arith}
-use Rattle.sheet_lines.proofs.Phases.{sends-begun}
+use Rattle.sheet_state.proofs.Phases.{start-faults, start-sends}
 use Rattle.sheet_reader.proofs.begin.Statement.{statement}
 use Rattle.sheet_reader.proofs.begin.Tie as tie
 
 returns : tie.Need-returns
-returns c = record { begins = λ hold map. refl; reading = λ hold map marks p q r. record { room = p; short = omega arith; few = λ e. omega arith; ready = λ e. record { on-map = record { room = q; four = λ n. absurd (n refl) }; room = r; sends = λ e. sends-begun e refl } } }
+returns c =
+    record {
+      begins = λ map. refl;
+      reading =
+          λ map room.
+          record {
+            room = omega arith;
+            short = omega arith;
+            few = λ on. omega arith;
+            ready = λ on. record { room = room; faults = λ e. start-faults refl e; sends = λ e. start-sends refl e };
+          };
+    }
 
 pub begin-spec : {M : Type 1} → statement M
 begin-spec = tie.close (tie.spec returns)

@@ -1,119 +1,102 @@
--- The first i bytes are taken. Assumes nothing.
-use mathlib.Core.Path.{_≡_, refl, _∙_}
-use Prim.Native.Nat.{_+_, _≤_, _-_}
-use native.Mathlib.Omega.{arith}
+-- Line by line or byte by byte, the first i bytes are taken. Assumes nothing.
 use borrow.Author.Needs.{needs}
-use lib.ListN.{length}
-use Rattle.mesh.proofs.Bools.{true-false}
+use mathlib.Core.Path.{sym}
+use Prim.Native.Nat.{ℕ, _-_}
+use native.Mathlib.Omega.{arith}
+use lib.ListN.{length-replicate}
 use Rattle.theory_walk.specs.Claims.{mostHops}
-use Rattle.sheet_lines.specs.Room.{answerRoom}
 use Rattle.sheet_reader.specs.Reading.{readerOf}
-use Rattle.sheet_reader.proofs.Feeding.{Taking, taking-none, taking-more, taken, part-fits, part-some}
+use Rattle.sheet_reader.proofs.Taking.{Taking, taking-none, can-read, can-answer, reads-on, taking-more, taken}
 use Rattle.sheet_reader.proofs.take_bytes.Statement.{statement}
 use Rattle.sheet_reader.proofs.take_bytes.Tie as tie
 
 abbrev Inv-loop : tie.InvT-loop
-Inv-loop bytes hold₀ map₀ marks₀ letters₀ out₀ n room r₀ at₀ i₀ hold map marks letters out r at i = (i ≤ n) × (n ≡ length bytes) × (room + answerRoom ≡ length out₀) × (length hold ≡ length hold₀) × (length map ≡ length map₀) × (length marks ≡ length marks₀) × (length letters ≡ length letters₀) × (mostHops ≤ length letters) × Taking (readerOf r₀ hold₀ map₀) bytes out₀ hold map marks out r at i
+Inv-loop bytes map₀ out₀ n room letters₀ hold₀ standing₀ at₀ i₀ map out letters hold standing at i =
+    Taking (readerOf (record { standing = standing₀; hold = hold₀ }) map₀) bytes map₀ out₀ n room map out letters hold standing at i
 
 abbrev μ-loop : tie.MeasureT-loop
-μ-loop bytes hold₀ map₀ marks₀ letters₀ out₀ n room r₀ at₀ i₀ hold map marks letters out r at i = n - i
+μ-loop bytes map₀ out₀ n room letters₀ hold₀ standing₀ at₀ i₀ map out letters hold standing at i = n - i
 
 sub-room : tie.Need-sub-room Inv-loop μ-loop
-sub-room c =
-    let at-entry = c .before .before .before .before .before .before in
-    at-entry .pre .2
+sub-room c = c .before .before .before .pre .1
 
 loop-holds : tie.Need-loop-holds Inv-loop μ-loop
 loop-holds c =
-    let pre = c .before .before .before .before .before .before .pre in
-    (omega arith, refl, omega (arith, pre .2), refl, refl, refl, refl, pre .1, taking-none (pre .0))
+    let (reading, room) = c .before .before .before .before .before .pre in
+    taking-none reading room (length-replicate {A = ℕ} mostHops 0)
 
-same-length : tie.Need-same-length Inv-loop μ-loop
-same-length c = c .before .before .loop .inv .3
+can-go-on-requires : tie.Need-can-go-on-requires Inv-loop μ-loop
+can-go-on-requires c κs = tt
 
-same-length-2 : tie.Need-same-length-2 Inv-loop μ-loop
-same-length-2 c = c .before .before .loop .inv .4
+sub-read-next : tie.Need-sub-read-next Inv-loop μ-loop
+sub-read-next c = omega arith
 
-same-length-3 : tie.Need-same-length-3 Inv-loop μ-loop
-same-length-3 c = c .before .before .loop .inv .5
+part-read-next-start : tie.Need-part-read-next-start Inv-loop μ-loop
+part-read-next-start c = search needs
 
-same-length-4 : tie.Need-same-length-4 Inv-loop μ-loop
-same-length-4 c = c .before .before .loop .inv .6
+part-read-next-end : tie.Need-part-read-next-end Inv-loop μ-loop
+part-read-next-end c = search needs
 
-same-length-5 : tie.Need-same-length-5 Inv-loop μ-loop
-same-length-5 c = c .before .before .loop .inv .8 .size
+slice-aggregate-read-next : tie.Need-slice-aggregate-read-next Inv-loop μ-loop
+slice-aggregate-read-next c =
+    let at-loop = c .before .before .before .before in
+    sym (at-loop .loop .inv .feeds .reading .room)
 
-returns : tie.Need-returns Inv-loop μ-loop
-returns c = taken (c .before .before .loop .inv .8) (omega arith) (λ less on. true-false (c .if1 .taken) on)
+read-next-requires : tie.Need-read-next-requires Inv-loop μ-loop
+read-next-requires c κs =
+    let goes-on = c .before .before in
+    let asked = goes-on .before in
+    can-read (asked .before .loop .inv) (asked .can-go-on .ensures) (goes-on .if1 .taken)
 
-same-length-6 : tie.Need-same-length-6 Inv-loop μ-loop
-same-length-6 c = c .before .before .before .loop .inv .3
+slice-aggregate-answer-next : tie.Need-slice-aggregate-answer-next Inv-loop μ-loop
+slice-aggregate-answer-next c =
+    let at-loop = c .before .before .before .before .before .before .before .before in
+    sym (at-loop .loop .inv .all-letters)
 
-same-length-7 : tie.Need-same-length-7 Inv-loop μ-loop
-same-length-7 c = c .before .before .before .loop .inv .4
-
-same-length-8 : tie.Need-same-length-8 Inv-loop μ-loop
-same-length-8 c = c .before .before .before .loop .inv .5
-
-same-length-9 : tie.Need-same-length-9 Inv-loop μ-loop
-same-length-9 c = c .before .before .before .loop .inv .6
-
-same-length-10 : tie.Need-same-length-10 Inv-loop μ-loop
-same-length-10 c = c .before .before .before .loop .inv .8 .size
-
-returns-2 : tie.Need-returns-2 Inv-loop μ-loop
-returns-2 c =
-    let at-loop = c .before .before .before in
-    taken (at-loop .loop .inv .8) (omega arith) (λ less on. omega (arith, at-loop .loop .inv .2))
-
-sub-take-some : tie.Need-sub-take-some Inv-loop μ-loop
-sub-take-some c = omega arith
-
-part-take-some-start : tie.Need-part-take-some-start Inv-loop μ-loop
-part-take-some-start c = search needs
-
-part-take-some-end : tie.Need-part-take-some-end Inv-loop μ-loop
-part-take-some-end c = search needs
-
-take-some-requires : tie.Need-take-some-requires Inv-loop μ-loop
-take-some-requires c κs =
-    let at-loop = c .before .before .before .before .before .before .before .before .before .loop in
-    (at-loop .inv .8 .feeds .reading, c .before .before .before .before .before .before .before .if1 .left, at-loop .inv .7, omega (arith, at-loop .inv .2, at-loop .inv .8 .size), part-some (at-loop .i) (c .before .before .before .before .before .before .before .before .before .before .before .before .before .before .before .before .args .bytes .now) (omega arith))
+answer-next-requires : tie.Need-answer-next-requires Inv-loop μ-loop
+answer-next-requires c κs =
+    let goes-on = c .before .before .before .before .before .before .before in
+    let asked = goes-on .before in
+    can-answer (asked .before .loop .inv) (asked .can-go-on .ensures) (goes-on .if1 .taken)
 
 add-i : tie.Need-add-i Inv-loop μ-loop
 add-i c =
-    let fits = part-fits (c .before .before .before .before .before .before .before .before .before .before .before .before .before .before .before .before .before .before .before .before .before .before .loop .i) (c .before .before .before .before .before .before .before .before .before .before .before .before .before .before .before .before .before .before .before .before .before .before .before .before .before .before .before .before .before .args .bytes .now) (c .before .before .before .before .before .before .before .before .before .before .before .before .take-some .ensures .0 .taken) (omega arith) in
-    omega (arith, c .before .before .before .before .before .before .before .before .before .before .before .before .before .before .before .before .before .before .before .before .before .before .before .before .before .before .before .before .before .good .1 .0)
+    let read = c .before .before .before .before .before .before .before .before .before .before .before .before in
+    let goes-on = read .before .before .before in
+    let asked = goes-on .before in
+    let at-loop = asked .before in
+    let at-entry = at-loop .before .before .before .before .before .before in
+    let (within, _) = reads-on (at-loop .loop .inv) (asked .can-go-on .ensures) (goes-on .if1 .taken) (read .read-next .ensures) in
+    omega (arith, at-entry .good .1 .0)
 
 loop-less : tie.Need-loop-less Inv-loop μ-loop
 loop-less c =
-    let fits = part-fits (c .before .before .before .before .before .before .before .before .before .before .before .before .before .before .before .before .before .before .before .before .before .before .loop .i) (c .before .before .before .before .before .before .before .before .before .before .before .before .before .before .before .before .before .before .before .before .before .before .before .before .before .before .before .before .before .args .bytes .now) (c .before .before .before .before .before .before .before .before .before .before .before .before .take-some .ensures .0 .taken) (omega arith) in
-    omega (arith, c .before .before .before .before .before .before .before .before .before .before .before .before .take-some .ensures .1)
+    let read = c .before .before .before .before .before .before .before .before .before .before .before .before in
+    let goes-on = read .before .before .before in
+    let asked = goes-on .before in
+    let (within, some) = reads-on (asked .before .loop .inv) (asked .can-go-on .ensures) (goes-on .if1 .taken) (read .read-next .ensures) in
+    omega arith
 
 loop-again : tie.Need-loop-again Inv-loop μ-loop
 loop-again c =
-    let at-loop = c .before .before .before .before .before .before .before .before .before .before .before .before .before .before .before .before .before .before .before .before .before .before .loop in
-    let some = c .before .before .before .before .before .before .before .before .before .before .before .before .take-some in
-    let kept = some .kept .1 .1 in
-    (part-fits (at-loop .i) (c .before .before .before .before .before .before .before .before .before .before .before .before .before .before .before .before .before .before .before .before .before .before .before .before .before .before .before .before .before .args .bytes .now) (some .ensures .0 .taken) (omega arith), refl, at-loop .inv .2, kept .0 ∙ at-loop .inv .3, kept .1 .0 ∙ at-loop .inv .4, kept .1 .1 .0 ∙ at-loop .inv .5, kept .1 .1 .1 .0 ∙ at-loop .inv .6, omega (arith, kept .1 .1 .1 .0, at-loop .inv .7), taking-more (at-loop .inv .8) (omega arith) (some .ensures .0))
+    let answered = c .before .before .before .before .before .before .before in
+    let read = answered .before .before .before .before .before in
+    let goes-on = read .before .before .before in
+    let asked = goes-on .before in
+    let kept = answered .answer-next .kept .1 .1 in
+    taking-more (asked .before .loop .inv) (asked .can-go-on .ensures) (goes-on .if1 .taken) (read .read-next .ensures)
+    (read .read-next .kept .1 .1 .1 .0) (kept .1 .0) (kept .0) (kept .1 .1 .0) (answered .answer-next .ensures)
 
-same-length-11 : tie.Need-same-length-11 Inv-loop μ-loop
-same-length-11 c = c .before .loop .inv .3
+same-length : tie.Need-same-length Inv-loop μ-loop
+same-length c = c .before .before .loop .inv .same-map
 
-same-length-12 : tie.Need-same-length-12 Inv-loop μ-loop
-same-length-12 c = c .before .loop .inv .4
+same-length-2 : tie.Need-same-length-2 Inv-loop μ-loop
+same-length-2 c = c .before .before .loop .inv .same-out
 
-same-length-13 : tie.Need-same-length-13 Inv-loop μ-loop
-same-length-13 c = c .before .loop .inv .5
-
-same-length-14 : tie.Need-same-length-14 Inv-loop μ-loop
-same-length-14 c = c .before .loop .inv .6
-
-same-length-15 : tie.Need-same-length-15 Inv-loop μ-loop
-same-length-15 c = c .before .loop .inv .8 .size
-
-returns-3 : tie.Need-returns-3 Inv-loop μ-loop
-returns-3 c = taken (c .before .loop .inv .8) (omega arith) (λ less on. absurd (omega arith))
+returns : tie.Need-returns Inv-loop μ-loop
+returns c =
+    let asked = c .before in
+    taken (asked .before .loop .inv) (asked .can-go-on .ensures) (c .if1 .left)
 
 pub take-bytes-spec : {M : Type 1} → statement M
 take-bytes-spec =
@@ -123,28 +106,17 @@ take-bytes-spec =
     μ-loop
     sub-room
     loop-holds
-    same-length
-    same-length-2
-    same-length-3
-    same-length-4
-    same-length-5
-    returns
-    same-length-6
-    same-length-7
-    same-length-8
-    same-length-9
-    same-length-10
-    returns-2
-    sub-take-some
-    part-take-some-start
-    part-take-some-end
-    take-some-requires
+    can-go-on-requires
+    sub-read-next
+    part-read-next-start
+    part-read-next-end
+    slice-aggregate-read-next
+    read-next-requires
+    slice-aggregate-answer-next
+    answer-next-requires
     add-i
     loop-less
     loop-again
-    same-length-11
-    same-length-12
-    same-length-13
-    same-length-14
-    same-length-15
-    returns-3)
+    same-length
+    same-length-2
+    returns)

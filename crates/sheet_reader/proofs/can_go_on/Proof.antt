@@ -1,0 +1,20 @@
+-- The tests are made in the order of the definition. Assumes nothing.
+use borrow.Author.Tests.{lt-ltb, le-ltb}
+use Rattle.sheet_reader.specs.Reading.{canGoOn}
+use Rattle.sheet_reader.proofs.can_go_on.Statement.{statement}
+use Rattle.sheet_reader.proofs.can_go_on.Tie as tie
+
+returns : tie.Need-returns
+unfolding canGoOn
+returns c = rw (le-ltb _ _ (c .if1 .taken))
+
+returns-2 : tie.Need-returns-2
+unfolding canGoOn
+returns-2 c = rw (lt-ltb _ _ (c .before .if1 .left), c .if2 .taken)
+
+returns-3 : tie.Need-returns-3
+unfolding canGoOn
+returns-3 c = rw (lt-ltb _ _ (c .before .if1 .left), c .if2 .left)
+
+pub can-go-on-spec : {M : Type 1} → statement M
+can-go-on-spec = tie.close (tie.spec returns returns-2 returns-3)
