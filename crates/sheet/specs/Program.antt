@@ -6,32 +6,37 @@ use mathlib.Core.List.{List}
 use Prim.Native.Nat.{ℕ, _≤_}
 use lib.Dec.{ltb}
 use lib.ListN.{length, take}
-use Rattle.sheet_reader.specs.declared.Reader.{Reader as Held}
-use Rattle.sheet_reader.specs.Reader.{Reader, begun, feedAll}
-use Rattle.sheet_reader.specs.Reading.{readerOf, Reading}
+use Rattle.theory_sheet.specs.Reader as theory
+use Rattle.theory_sheet.specs.Reader.{begun, feedAll}
+use Rattle.sheet_bytes.specs.declared.Reader.{Reader}
+use Rattle.sheet_bytes.specs.Reading.{readerOf, Reading}
 use Rattle.sheet.specs.declared.Read.{Read}
 
+-- answering goes on: bytes are left, the run is not over, and its answers were written
+unfoldable pub answersOn : ℕ → ℕ → Bool → Bool → Bool
+answersOn used n over written = ltb used n && (not over && written)
+
 -- bytes are answered: all of them are fed, unless a write failed
-pub record Answers (r : Reader) (bytes : List ℕ) (x : Held) (written : Bool) (hold map marks : List ℕ) : Type 0 where
-  pub fed : written ≡ true → readerOf x hold map ≡ feedAll r bytes .next
-  pub reading : Reading x hold map marks
+pub record Answers (r : theory.Reader) (bytes : List ℕ) (x : Reader) (written : Bool) (map : List ℕ) : Type 0 where
+  pub fed : written ≡ true → readerOf x map ≡ feedAll r bytes .next
+  pub reading : Reading x map
 
 -- what came is within the chunk, and is answered
-pub record Reads (r : Reader) (x : Read) (chunk hold map marks : List ℕ) : Type 0 where
+pub record Reads (r : theory.Reader) (x : Read) (chunk map : List ℕ) : Type 0 where
   pub within : x .came ≤ length chunk
-  pub answers : Answers r (take (x .came) chunk) (x .reader) (x .written) hold map marks
+  pub answers : Answers r (take (x .came) chunk) (x .reader) (x .written) map
 
 -- reading goes on: something came, the run is not over, and its answers were written
 unfoldable pub goesOn : Read → Bool
-goesOn x = ltb 0 (x .came) && (not (x .reader .over) && x .written)
+goesOn x = ltb 0 (x .came) && (not (x .reader .standing .over) && x .written)
 
 -- a reader that was fed these bytes from the start; which bytes came no contract can say
-pub record FedFromStart (r : Reader) : Type 0 where
+pub record FedFromStart (r : theory.Reader) : Type 0 where
   pub bytes : List ℕ
   pub fed : r ≡ feedAll begun bytes .next
 
 -- reading stops only where it does not go on; unless a write failed, the reader was then fed bytes from the start, read by read (`Reads`)
-pub record ReadsAll (x : Read) (hold map marks : List ℕ) : Type 0 where
+pub record ReadsAll (x : Read) (map : List ℕ) : Type 0 where
   pub stops : goesOn x ≡ false
-  pub fed : x .written ≡ true → FedFromStart (readerOf (x .reader) hold map)
-  pub reading : Reading (x .reader) hold map marks
+  pub fed : x .written ≡ true → FedFromStart (readerOf (x .reader) map)
+  pub reading : Reading (x .reader) map

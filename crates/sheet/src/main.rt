@@ -3,13 +3,13 @@ ghost use mathlib.Core.Path.{_≡_};
 ghost use Prim.Native.Nat.{_≤_};
 ghost use lib.ListN.{length};
 ghost use Rattle.sheet_lines.specs.Answers.{answerRoom};
-ghost use Rattle.sheet_reader.specs.Reading.{readerOf, Reading};
-ghost use Rattle.sheet.specs.Program.{Answers, Reads, goesOn, ReadsAll};
+ghost use Rattle.sheet_bytes.specs.Reading.{readerOf, Reading};
+ghost use Rattle.sheet.specs.Program.{answersOn, Answers, Reads, goesOn, ReadsAll};
 use libc::STDERR_FILENO;
 use libc::STDIN_FILENO;
 use libc::STDOUT_FILENO;
-use sheet_reader::Reader;
-use sheet_reader::begin;
+use sheet_bytes::Reader;
+use sheet_bytes::begin;
 use sheet_reader::finish;
 use sheet_reader::take_bytes;
 
@@ -27,6 +27,19 @@ struct Read {
     written: bool,
 }
 
+// Whether to answer on: bytes are left, the run is not over, and its answers could be written.
+fn answers_on(used: usize, n: usize, over: bool, written: bool) -> bool
+    ensures { λ x. ⌜ x ≡ answersOn used n over written ⌝ }
+{
+    if n <= used {
+        return false;
+    }
+    if over {
+        return false;
+    }
+    written
+}
+
 // Answers bytes of the sheet, as many at a time as there is room for, and writes the answers.
 fn answer_some(reader: Reader, bytes: &[u8], map: &mut [u8], out: &mut [u8]) -> Answered
     requires { ⌜ Reading reader (now map) × (answerRoom ≤ length (now out)) ⌝ }
@@ -34,28 +47,15 @@ fn answer_some(reader: Reader, bytes: &[u8], map: &mut [u8], out: &mut [u8]) -> 
 {
     let n = bytes.len();
     let mut r = reader;
+    let mut written = true;
     let mut used = 0;
-    while used < n {
-        if r.standing.over {
-            return Answered {
-                reader: r,
-                written: true,
-            };
-        }
+    while answers_on(used, n, r.standing.over, written) {
         let taken = take_bytes(r, &bytes[used..], map, out);
         r = taken.reader;
-        if !io::write_all(STDOUT_FILENO, &out[..taken.at]) {
-            return Answered {
-                reader: r,
-                written: false,
-            };
-        }
+        written = io::write_all(STDOUT_FILENO, &out[..taken.at]);
         used += taken.taken;
     }
-    Answered {
-        reader: r,
-        written: true,
-    }
+    Answered { reader: r, written }
 }
 
 // Reads once, and answers what came.

@@ -1,11 +1,28 @@
-// The bytes of a sheet, as commands: a whole line at once where it can be, else one byte.
+// A sheet being read: where it stands, and what its next bytes say.
 ghost use mathlib.Core.Path.{_≡_};
 ghost use Prim.Native.Nat.{ℕ, _≤_};
 ghost use lib.ListN.{length};
 ghost use Rattle.sheet_bytes.specs.declared.Found.the-variants.{Line};
+ghost use Rattle.sheet_bytes.specs.Reading.{nextLine, Begins};
 ghost use Rattle.sheet_bytes.specs.Next.{WholeLine, ReadsNext};
+use sheet_state::Sheet;
 use sheet_words::Command;
 use sheet_words::read_line;
+use theory_sheet::Phase;
+
+// Where a sheet stands: what the lines before this one have said, its number, how many bytes of it are held, and whether the run is over.
+pub struct Standing {
+    pub sheet: Sheet,
+    pub number: u32,
+    pub held: usize,
+    pub over: bool,
+}
+
+// A sheet being read, with the bytes that are held.
+pub struct Reader {
+    pub standing: Standing,
+    pub hold: [u8; 20],
+}
 
 // What was read: a line, or a byte of one that is held.
 pub enum Read {
@@ -23,6 +40,39 @@ pub struct Next {
 enum Found {
     Line(usize),
     Nothing,
+}
+
+// A sheet of which nothing is read yet.
+pub fn begin() -> Reader
+    ensures { λ x. ⌜ Begins x ⌝ }
+{
+    let standing = Standing {
+        sheet: Sheet {
+            phase: Phase::Start,
+            columns: 0,
+            rows: 0,
+        },
+        number: 1,
+        held: 0,
+        over: false,
+    };
+    Reader {
+        standing,
+        hold: [0; 20],
+    }
+}
+
+// After line `number`.
+pub fn next_line(number: u32, sheet: Sheet, over: bool) -> Standing
+    requires { ⌜ number ≤ 65536 ⌝ }
+    ensures { λ x. ⌜ x ≡ nextLine number sheet over ⌝ }
+{
+    Standing {
+        sheet,
+        number: number + 1,
+        held: 0,
+        over,
+    }
 }
 
 fn least(a: usize, b: usize) -> usize
@@ -60,9 +110,10 @@ pub fn read_next(number: u32, held: usize, bytes: &[u8], hold: &mut [u8]) -> Nex
     let found = find_line(held, bytes);
     if let Found::Line(end) = found {
         let command = read_line(number, &bytes[..end]);
+        let taken = end + 1;
         return Next {
             read: Read::Line(command),
-            taken: end + 1,
+            taken,
         };
     }
     let byte = bytes[0];

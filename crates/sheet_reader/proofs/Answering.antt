@@ -14,11 +14,12 @@ use Rattle.sheet_lines.specs.declared.Answered.{Answered}
 use Rattle.sheet_lines.specs.Answers.{Answers}
 use Rattle.sheet_bytes.specs.declared.Read.{Read}
 use Rattle.sheet_bytes.specs.declared.Read.the-variants.{Line, Part}
-use Rattle.sheet_reader.specs.declared.Standing.{Standing}
-use Rattle.sheet_reader.specs.Reading.{nextLine, Advances}
+use Rattle.sheet_bytes.specs.declared.Standing.{Standing}
+use Rattle.sheet_bytes.specs.Reading.{nextLine}
+use Rattle.sheet_reader.specs.Taking.{Advances}
 
 module _ (s : Standing) {read : Read} (map out : List ℕ) {at : ℕ} where
-  pub line-answered : {c : Command} {a : Answered} {z : Standing} {map′ after : List ℕ} → read ≡ Line c → z ≡ nextLine (s .number) a →
+  pub line-answered : {c : Command} {a : Answered} {z : Standing} {map′ after : List ℕ} → read ≡ Line c → z ≡ nextLine (s .number) (a .sheet) (a .ends) →
       Answers (commandStep (s .number) (stateOf (s .sheet) map) c) out at a map′ after → Advances s read map out at (record { standing = z; at = a .at }) map′ after
   line-answered e is-z p =
       rw (e, is-z)

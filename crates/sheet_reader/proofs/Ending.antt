@@ -12,8 +12,8 @@ use Rattle.theory_sheet.specs.Sheet.{atEnd}
 use Rattle.theory_sheet.specs.Reader.{finish}
 use Rattle.theory_sheet.proofs.Ends.{finish-over, finish-held, finish-none}
 use Rattle.sheet_state.specs.Keeping.{stateOf}
-use Rattle.sheet_reader.specs.declared.Reader.{Reader}
-use Rattle.sheet_reader.specs.Reading.{readerOf, Reading}
+use Rattle.sheet_bytes.specs.declared.Reader.{Reader}
+use Rattle.sheet_bytes.specs.Reading.{readerOf, Reading}
 use Rattle.sheet_reader.proofs.Taking.{held-size}
 
 module _ (r : Reader) (map : List ℕ) {out : List ℕ} {at : ℕ} where

@@ -1,3 +1,4 @@
 pub mod Answering
+pub mod Parts
 pub mod Taking
 pub mod Ending

@@ -1,13 +1,13 @@
 -- Bytes taken one line or byte after another are fed as the whole. Assumes nothing.
 use mathlib.Core.Path.{_≡_, refl, sym, ap, _∙_}
 use mathlib.Core.Bool.{Bool, true, false, not, _&&_}
-use mathlib.Core.List.{List, _++_}
+use mathlib.Core.List.{List}
 use Prim.Native.Nat.{ℕ, _+_, _-_, _≤_, _<_}
 use native.Mathlib.Omega.{arith}
 use borrow.Author.Tests.{ltb-true, lt-ltb, leb-true, leb-false, not-true}
 use lib.Dec.{leb, ltb}
-use lib.ListN.{length, take, drop, length-drop}
-use lib.Seq.{length-take-le, take-take, take-add}
+use lib.ListN.{length, take}
+use lib.Seq.{length-take-le}
 use Rattle.mesh.proofs.Bools.{and-both}
 use Rattle.buffers.proofs.Over.{puts-nothing, puts-append, over-length}
 use Rattle.theory_walk.specs.Claims.{mostHops}
@@ -19,10 +19,12 @@ use Rattle.sheet_state.specs.Keeping.{stateOf, Ready}
 use Rattle.sheet_lines.specs.Answers.{answerRoom}
 use Rattle.sheet_bytes.specs.declared.Next.{Next}
 use Rattle.sheet_bytes.specs.Next.{readFed, ReadsNext}
-use Rattle.sheet_reader.specs.declared.Standing.{Standing}
-use Rattle.sheet_reader.specs.declared.Reader.{Reader}
+use Rattle.sheet_bytes.specs.declared.Standing.{Standing}
+use Rattle.sheet_bytes.specs.declared.Reader.{Reader}
 use Rattle.sheet_reader.specs.declared.Advance.{Advance}
-use Rattle.sheet_reader.specs.Reading.{readerOf, Reading, Feeds, Advances, canGoOn, TakesBytes}
+use Rattle.sheet_bytes.specs.Reading.{readerOf, Reading}
+use Rattle.sheet_reader.specs.Taking.{Feeds, Advances, canGoOn, TakesBytes}
+use Rattle.sheet_reader.proofs.Parts.{from, from-size, from-more}
 
 abbrev holding : Standing → List ℕ → Reader
 holding s hold = record { standing = s; hold = hold }
@@ -80,13 +82,6 @@ taking-none {out = out} g room all =
       feeds = record { puts = puts-nothing out 0 (omega arith); next = refl; reading = g };
     }
 
--- the bytes from i on
-abbrev from : ℕ → List ℕ → List ℕ
-from i bytes = take (length bytes - i) (drop i bytes)
-
-from-size : (i : ℕ) (bytes : List ℕ) → length (from i bytes) ≡ length bytes - i
-from-size i bytes = length-take-le (length bytes - i) (drop i bytes) (omega (arith, length-drop i bytes))
-
 module _ {r : theory.Reader} {bytes map₀ out₀ : List ℕ} {n room : ℕ} {map out letters hold : List ℕ} {s : Standing} {at i : ℕ} (t : Taking r bytes map₀ out₀ n room map out letters hold s at i) {b : Bool} (is-b : b ≡ canGoOn i n (s .over) at room) where
   module _ (go : b ≡ true) where
     can : (i < n) × (s .over ≡ false) × (at ≤ room)
@@ -117,7 +112,7 @@ module _ {r : theory.Reader} {bytes map₀ out₀ : List ℕ} {n room : ℕ} {ma
           let k = x .taken in
           let fed = t .feeds .next in
           let f = step (t .feeds .reading) (can .1) read (same-hold ∙ t .feeds .reading .room) a in
-          let more : take (i + k) bytes ≡ take i bytes ++ take k (from i bytes) = rw (take-take k (length bytes - i) (drop i bytes) (omega (arith, read .within, from-size i bytes))) (take-add i k bytes) in
+          let more = from-more i bytes k (read .within) in
           record {
             all = t .all;
             within = reads-on .0;

@@ -8,31 +8,18 @@ ghost use Rattle.buffers.specs.Over.{Puts};
 ghost use Rattle.theory_sheet.specs.Reader.{finish};
 ghost use Rattle.sheet_state.specs.Keeping.{stateOf, Ready};
 ghost use Rattle.sheet_lines.specs.Answers.{answerRoom};
-ghost use Rattle.sheet_reader.specs.Reading.{readerOf, nextLine, Reading, Begins, Advances, canGoOn, TakesBytes};
+ghost use Rattle.sheet_bytes.specs.Reading.{readerOf, Reading};
+ghost use Rattle.sheet_reader.specs.Taking.{Advances, canGoOn, TakesBytes};
 use sheet_bytes::Read;
+use sheet_bytes::Reader;
+use sheet_bytes::Standing;
+use sheet_bytes::next_line;
 use sheet_bytes::read_next;
 use sheet_lines::ANSWER_ROOM;
-use sheet_lines::Answered;
 use sheet_lines::answer_line;
 use sheet_lines::end_sheet;
 use sheet_prints::put_bad_line;
-use sheet_state::Sheet;
-use theory_sheet::Phase;
 use walk::MOST_HOPS;
-
-// Where a sheet stands: what the lines before this one have said, its number, how many bytes of it are held, and whether the run is over.
-pub struct Standing {
-    pub sheet: Sheet,
-    pub number: u32,
-    pub held: usize,
-    pub over: bool,
-}
-
-// A sheet being read, with the bytes that are held.
-pub struct Reader {
-    pub standing: Standing,
-    pub hold: [u8; 20],
-}
 
 // A reader after some bytes, the index after what is printed, and how many bytes were taken.
 pub struct Taken {
@@ -45,40 +32,6 @@ pub struct Taken {
 struct Advance {
     standing: Standing,
     at: usize,
-}
-
-// A sheet of which nothing is read yet.
-pub fn begin() -> Reader
-    ensures { λ x. ⌜ Begins x ⌝ }
-{
-    let standing = Standing {
-        sheet: Sheet {
-            phase: Phase::Start,
-            columns: 0,
-            rows: 0,
-        },
-        number: 1,
-        held: 0,
-        over: false,
-    };
-    Reader {
-        standing,
-        hold: [0; 20],
-    }
-}
-
-// After line `number`.
-fn next_line(number: u32, answered: Answered) -> Standing
-    requires { ⌜ number ≤ 65536 ⌝ }
-    ensures { λ x. ⌜ x ≡ nextLine number answered ⌝ }
-{
-    let sheet = answered.sheet;
-    Standing {
-        sheet,
-        number: number + 1,
-        held: 0,
-        over: answered.ends,
-    }
 }
 
 // What was read: a line is answered, a byte that is held is counted.
@@ -98,17 +51,19 @@ fn answer_next(
     match read {
         Read::Line(command) => {
             let answered = answer_line(sheet, number, command, map, letters, out, at);
+            let after = answered.sheet;
             return Advance {
-                standing: next_line(number, answered),
+                standing: next_line(number, after, answered.ends),
                 at: answered.at,
             };
         }
         Read::Part => {
+            let held = standing.held + 1;
             return Advance {
                 standing: Standing {
                     sheet,
                     number,
-                    held: standing.held + 1,
+                    held,
                     over: false,
                 },
                 at,

@@ -1,138 +1,92 @@
--- The bytes before used are answered. Assumes nothing.
-use mathlib.Core.Path.{_≡_, refl, _∙_}
-use Prim.Native.Nat.{_≤_, _-_}
-use native.Mathlib.Omega.{arith}
+-- Part by part, the first `used` bytes are answered. Assumes nothing.
 use borrow.Author.Needs.{needs}
-use lib.ListN.{length}
-use Rattle.theory_walk.specs.Claims.{mostHops}
-use Rattle.sheet_lines.specs.Room.{answerRoom}
-use Rattle.sheet_reader.specs.Reading.{readerOf}
-use Rattle.sheet_reader.proofs.Feeding.{part-fits, part-some}
-use Rattle.sheet.proofs.Keeps.{Using, using-none, takes-some, using-over, using-all, using-more, unwritten}
+use mathlib.Core.Path.{sym}
+use Prim.Native.Nat.{_-_}
+use native.Mathlib.Omega.{arith}
+use lib.Seq.{length-take-le}
+use Rattle.sheet_bytes.specs.Reading.{readerOf}
+use Rattle.sheet.proofs.Using.{Using, using-none, uses-more, using-more, used-up}
 use Rattle.sheet.proofs.answer_some.Statement.{statement}
 use Rattle.sheet.proofs.answer_some.Tie as tie
 
 abbrev Inv-loop : tie.InvT-loop
-Inv-loop bytes hold₀ map₀ marks₀ letters₀ out₀ n r₀ used₀ hold map marks letters out r used = (used ≤ n) × (n ≡ length bytes) × (length hold ≡ length hold₀) × (length map ≡ length map₀) × (length marks ≡ length marks₀) × (length letters ≡ length letters₀) × (length out ≡ length out₀) × (mostHops ≤ length letters) × (answerRoom ≤ length out) × Using (readerOf r₀ hold₀ map₀) bytes r used hold map marks
+Inv-loop bytes map₀ out₀ n r₀ written₀ used₀ map out r written used =
+    Using (readerOf r₀ map₀) bytes map₀ out₀ n map out r used
 
 abbrev μ-loop : tie.MeasureT-loop
-μ-loop bytes hold₀ map₀ marks₀ letters₀ out₀ n r₀ used₀ hold map marks letters out r used = n - used
+μ-loop bytes map₀ out₀ n r₀ written₀ used₀ map out r written used = n - used
 
 loop-holds : tie.Need-loop-holds Inv-loop μ-loop
 loop-holds c =
-    let pre = c .before .before .before .before .before .before .pre in
-    (omega arith, refl, refl, refl, refl, refl, refl, pre .1, pre .2, using-none (pre .0))
+    let (reading, room) = c .before .before .before .pre in
+    using-none reading room
 
-same-length : tie.Need-same-length Inv-loop μ-loop
-same-length c = c .before .before .loop .inv .2
+answers-on-requires : tie.Need-answers-on-requires Inv-loop μ-loop
+answers-on-requires c κs = tt
 
-same-length-2 : tie.Need-same-length-2 Inv-loop μ-loop
-same-length-2 c = c .before .before .loop .inv .3
+sub-take-bytes : tie.Need-sub-take-bytes Inv-loop μ-loop
+sub-take-bytes c = omega arith
 
-same-length-3 : tie.Need-same-length-3 Inv-loop μ-loop
-same-length-3 c = c .before .before .loop .inv .4
+part-take-bytes-start : tie.Need-part-take-bytes-start Inv-loop μ-loop
+part-take-bytes-start c = search needs
 
-same-length-4 : tie.Need-same-length-4 Inv-loop μ-loop
-same-length-4 c = c .before .before .loop .inv .5
+part-take-bytes-end : tie.Need-part-take-bytes-end Inv-loop μ-loop
+part-take-bytes-end c = search needs
 
-same-length-5 : tie.Need-same-length-5 Inv-loop μ-loop
-same-length-5 c = c .before .before .loop .inv .6
+take-bytes-requires : tie.Need-take-bytes-requires Inv-loop μ-loop
+take-bytes-requires c κs =
+    let at-loop = c .before .before .before .before .before in
+    (at-loop .loop .inv .reading, at-loop .loop .inv .room)
 
-returns : tie.Need-returns Inv-loop μ-loop
-returns c = using-over (c .before .before .loop .inv .9) (c .if1 .taken)
+slice-reshare-prefix-write-all : tie.Need-slice-reshare-prefix-write-all Inv-loop μ-loop
+slice-reshare-prefix-write-all c =
+    let taken = c .before .before .before .before .before in
+    omega (arith, taken .take-bytes .ensures .room, taken .take-bytes .kept .1 .1 .1 .0)
 
-sub-answer-part : tie.Need-sub-answer-part Inv-loop μ-loop
-sub-answer-part c = omega arith
+slice-aggregate-write-all : tie.Need-slice-aggregate-write-all Inv-loop μ-loop
+slice-aggregate-write-all c =
+    let taken = c .before .before .before .before .before .before in
+    sym (length-take-le _ _ (omega (arith, taken .take-bytes .ensures .room, taken .take-bytes .kept .1 .1 .1 .0)))
 
-part-answer-part-start : tie.Need-part-answer-part-start Inv-loop μ-loop
-part-answer-part-start c = search needs
-
-part-answer-part-end : tie.Need-part-answer-part-end Inv-loop μ-loop
-part-answer-part-end c = search needs
-
-answer-part-requires : tie.Need-answer-part-requires Inv-loop μ-loop
-answer-part-requires c κs =
-    let at-loop = c .before .before .before .before .before .before .before .before .loop in
-    (at-loop .inv .9 .reading, at-loop .inv .7, at-loop .inv .8)
-
-same-length-6 : tie.Need-same-length-6 Inv-loop μ-loop
-same-length-6 c =
-    let at-answer-part = c .before .before .before .before .before .before .before .before .before .before .before .before .before .before in
-    let at-loop = at-answer-part .before .before .before .before .before .before .before .before .before in
-    at-answer-part .answer-part .kept .1 .1 .0 ∙ at-loop .loop .inv .2
-
-same-length-7 : tie.Need-same-length-7 Inv-loop μ-loop
-same-length-7 c =
-    let at-answer-part = c .before .before .before .before .before .before .before .before .before .before .before .before .before .before in
-    let at-loop = at-answer-part .before .before .before .before .before .before .before .before .before in
-    at-answer-part .answer-part .kept .1 .1 .1 .0 ∙ at-loop .loop .inv .3
-
-same-length-8 : tie.Need-same-length-8 Inv-loop μ-loop
-same-length-8 c =
-    let at-answer-part = c .before .before .before .before .before .before .before .before .before .before .before .before .before .before in
-    let at-loop = at-answer-part .before .before .before .before .before .before .before .before .before in
-    at-answer-part .answer-part .kept .1 .1 .1 .1 .0 ∙ at-loop .loop .inv .4
-
-same-length-9 : tie.Need-same-length-9 Inv-loop μ-loop
-same-length-9 c =
-    let at-answer-part = c .before .before .before .before .before .before .before .before .before .before .before .before .before .before in
-    let at-loop = at-answer-part .before .before .before .before .before .before .before .before .before in
-    at-answer-part .answer-part .kept .1 .1 .1 .1 .1 .0 ∙ at-loop .loop .inv .5
-
-same-length-10 : tie.Need-same-length-10 Inv-loop μ-loop
-same-length-10 c =
-    let at-answer-part = c .before .before .before .before .before .before .before .before .before .before .before .before .before .before in
-    let at-loop = at-answer-part .before .before .before .before .before .before .before .before .before in
-    at-answer-part .answer-part .kept .1 .1 .1 .1 .1 .1 .0 ∙ at-loop .loop .inv .6
-
-returns-2 : tie.Need-returns-2 Inv-loop μ-loop
-returns-2 c =
-    let at-answer-part = c .before .before .before .before .before .before .before .before .before .before .before .before .before .before in
-    unwritten (at-answer-part .answer-part .ensures .some .feeds .reading)
+write-all-requires : tie.Need-write-all-requires Inv-loop μ-loop
+write-all-requires c κs = search needs
 
 add-used : tie.Need-add-used Inv-loop μ-loop
 add-used c =
-    let at-loop = c .before .before .before .before .before .before .before .before .before .before .before .before .before .before .before .before .before .before .before .before .before .before .before .before .loop in
-    let bytes = c .before .before .before .before .before .before .before .before .before .before .before .before .before .before .before .before .before .before .before .before .before .before .before .before .before .before .before .before .before .before .before .args .bytes .now in
-    let part = c .before .before .before .before .before .before .before .before .before .before .before .before .before .before .before .answer-part in
-    let fits = part-fits (at-loop .used) bytes (part .ensures .some .taken) (omega arith) in
-    omega (arith, c .before .before .before .before .before .before .before .before .before .before .before .before .before .before .before .before .before .before .before .before .before .before .before .before .before .before .before .before .before .before .before .good .1 .0)
+    let taken = c .before .before .before .before .before .before .before .before in
+    let goes-on = taken .before .before .before .before in
+    let asked = goes-on .before in
+    let at-loop = asked .before in
+    let at-entry = at-loop .before .before .before .before in
+    let (within, _) = uses-more (at-loop .loop .inv) _ (asked .answers-on .ensures) (goes-on .if1 .taken) (taken .take-bytes .ensures) in
+    omega (arith, at-entry .good .1 .0)
 
 loop-less : tie.Need-loop-less Inv-loop μ-loop
 loop-less c =
-    let at-loop = c .before .before .before .before .before .before .before .before .before .before .before .before .before .before .before .before .before .before .before .before .before .before .before .before .loop in
-    let bytes = c .before .before .before .before .before .before .before .before .before .before .before .before .before .before .before .before .before .before .before .before .before .before .before .before .before .before .before .before .before .before .before .args .bytes .now in
-    let part = c .before .before .before .before .before .before .before .before .before .before .before .before .before .before .before .answer-part in
-    let fits = part-fits (at-loop .used) bytes (part .ensures .some .taken) (omega arith) in
-    let some = takes-some _ (part .ensures) (c .before .before .before .before .before .before .before .before .before .before .before .before .before .before .before .before .before .before .before .before .before .before .if1 .left) (part-some (at-loop .used) bytes (omega (arith, at-loop .inv .1, c .before .before .before .before .before .before .before .before .before .before .before .before .before .before .before .before .before .before .before .before .before .before .before .loop-test .taken))) (at-loop .inv .8) in
+    let taken = c .before .before .before .before .before .before .before .before in
+    let goes-on = taken .before .before .before .before in
+    let asked = goes-on .before in
+    let (within, some) = uses-more (asked .before .loop .inv) _ (asked .answers-on .ensures) (goes-on .if1 .taken) (taken .take-bytes .ensures) in
     omega arith
 
 loop-again : tie.Need-loop-again Inv-loop μ-loop
 loop-again c =
-    let at-loop = c .before .before .before .before .before .before .before .before .before .before .before .before .before .before .before .before .before .before .before .before .before .before .before .before .loop in
-    let bytes = c .before .before .before .before .before .before .before .before .before .before .before .before .before .before .before .before .before .before .before .before .before .before .before .before .before .before .before .before .before .before .before .args .bytes .now in
-    let part = c .before .before .before .before .before .before .before .before .before .before .before .before .before .before .before .answer-part in
-    let fits = part-fits (at-loop .used) bytes (part .ensures .some .taken) (omega arith) in
-    let kept = part .kept .1 .1 in
-    (fits, refl, kept .0 ∙ at-loop .inv .2, kept .1 .0 ∙ at-loop .inv .3, kept .1 .1 .0 ∙ at-loop .inv .4, kept .1 .1 .1 .0 ∙ at-loop .inv .5, kept .1 .1 .1 .1 .0 ∙ at-loop .inv .6, omega (arith, kept .1 .1 .1 .0, at-loop .inv .7), omega (arith, kept .1 .1 .1 .1 .0, at-loop .inv .8), using-more (at-loop .inv .9) _ (omega arith) (part .ensures))
+    let taken = c .before .before .before .before .before .before .before .before in
+    let goes-on = taken .before .before .before .before in
+    let asked = goes-on .before in
+    let kept = taken .take-bytes .kept .1 .1 in
+    using-more (asked .before .loop .inv) _ (asked .answers-on .ensures) (goes-on .if1 .taken) (taken .take-bytes .ensures) (kept .0) (kept .1 .0)
 
-same-length-11 : tie.Need-same-length-11 Inv-loop μ-loop
-same-length-11 c = c .before .loop .inv .2
+same-length : tie.Need-same-length Inv-loop μ-loop
+same-length c = c .before .before .loop .inv .same-map
 
-same-length-12 : tie.Need-same-length-12 Inv-loop μ-loop
-same-length-12 c = c .before .loop .inv .3
+same-length-2 : tie.Need-same-length-2 Inv-loop μ-loop
+same-length-2 c = c .before .before .loop .inv .same-out
 
-same-length-13 : tie.Need-same-length-13 Inv-loop μ-loop
-same-length-13 c = c .before .loop .inv .4
-
-same-length-14 : tie.Need-same-length-14 Inv-loop μ-loop
-same-length-14 c = c .before .loop .inv .5
-
-same-length-15 : tie.Need-same-length-15 Inv-loop μ-loop
-same-length-15 c = c .before .loop .inv .6
-
-returns-3 : tie.Need-returns-3 Inv-loop μ-loop
-returns-3 c = using-all (c .before .loop .inv .9) (omega arith)
+returns : tie.Need-returns Inv-loop μ-loop
+returns c =
+    let asked = c .before in
+    used-up (asked .before .loop .inv) _ (asked .answers-on .ensures) (c .if1 .left)
 
 pub answer-some-spec : {M : Type 1} → statement M
 answer-some-spec =
@@ -141,28 +95,17 @@ answer-some-spec =
     Inv-loop
     μ-loop
     loop-holds
-    same-length
-    same-length-2
-    same-length-3
-    same-length-4
-    same-length-5
-    returns
-    sub-answer-part
-    part-answer-part-start
-    part-answer-part-end
-    answer-part-requires
-    same-length-6
-    same-length-7
-    same-length-8
-    same-length-9
-    same-length-10
-    returns-2
+    answers-on-requires
+    sub-take-bytes
+    part-take-bytes-start
+    part-take-bytes-end
+    take-bytes-requires
+    slice-reshare-prefix-write-all
+    slice-aggregate-write-all
+    write-all-requires
     add-used
     loop-less
     loop-again
-    same-length-11
-    same-length-12
-    same-length-13
-    same-length-14
-    same-length-15
-    returns-3)
+    same-length
+    same-length-2
+    returns)

@@ -2,7 +2,6 @@
 use borrow.Author.Needs.{needs}
 use mathlib.Core.Path.{sym}
 use native.Mathlib.Omega.{arith}
-use lib.ListN.{replicate}
 use lib.Seq.{length-take-le}
 use Rattle.sheet.proofs.end_sheet.Statement.{statement}
 use Rattle.sheet.proofs.end_sheet.Tie as tie
@@ -26,14 +25,12 @@ finish-requires : tie.Need-finish-requires
 finish-requires c κs = search needs
 
 slice-reshare-prefix-write-all : tie.Need-slice-reshare-prefix-write-all
-slice-reshare-prefix-write-all c =
-    let at-finish = c .before .before .before .before in
-    omega (arith, at-finish .finish .ensures (replicate 20 0) (omega arith) .fits, at-finish .finish .kept .1 .1 .1 .0)
+slice-reshare-prefix-write-all c = search needs
 
 slice-aggregate-write-all-2 : tie.Need-slice-aggregate-write-all-2
 slice-aggregate-write-all-2 c =
-    let at-finish = c .before .before .before .before .before in
-    sym (length-take-le _ _ (omega (arith, at-finish .finish .ensures (replicate 20 0) (omega arith) .fits, at-finish .finish .kept .1 .1 .1 .0)))
+    let finished = c .before .before .before .before .before in
+    sym (length-take-le _ _ (omega (arith, finished .finish .ensures .fits, finished .finish .kept .1 .1 .0)))
 
 write-all-requires-2 : tie.Need-write-all-requires-2
 write-all-requires-2 c κs = search needs

@@ -1,91 +1,76 @@
 -- The bytes that came so far were fed from the start, and each read that goes on leaves fewer to take. Assumes nothing.
-use mathlib.Core.Path.{_≡_, refl, _∙_}
-use Prim.Native.Nat.{_≤_}
-use native.Mathlib.Omega.{arith}
+use mathlib.Core.Path.{_∙_}
 use borrow.Author.Tests.{not-true, not-false}
-use lib.ListN.{length}
-use Rattle.theory_walk.specs.Claims.{mostHops}
-use Rattle.sheet_lines.specs.Room.{answerRoom}
-use Rattle.sheet.proofs.Keeps.{Going, left, going-first, going-stops, going-on, going-less}
+use Rattle.theory_sheet.proofs.Progress.{most}
+use Rattle.sheet_bytes.specs.Reading.{readerOf}
+use Rattle.sheet.proofs.Going.{Going, going-first, going-stops, going-on, going-less}
 use Rattle.sheet.proofs.read_all.Statement.{statement}
 use Rattle.sheet.proofs.read_all.Tie as tie
 
 abbrev Inv-loop : tie.InvT-loop
-Inv-loop chunk₀ hold₀ map₀ marks₀ letters₀ out₀ r₀ chunk hold map marks letters out r = (length chunk ≡ length chunk₀) × (length hold ≡ length hold₀) × (length map ≡ length map₀) × (length marks ≡ length marks₀) × (length letters ≡ length letters₀) × (length out ≡ length out₀) × (mostHops ≤ length letters) × (answerRoom ≤ length out) × Going r hold map marks
+Inv-loop chunk₀ map₀ out₀ r₀ chunk map out r = Going chunk₀ map₀ out₀ chunk map out r
 
 abbrev μ-loop : tie.MeasureT-loop
-μ-loop chunk₀ hold₀ map₀ marks₀ letters₀ out₀ r₀ chunk hold map marks letters out r = left r
+μ-loop chunk₀ map₀ out₀ r₀ chunk map out r = most (readerOf r map)
 
 begin-requires : tie.Need-begin-requires Inv-loop μ-loop
 begin-requires c κs = tt
 
 loop-holds : tie.Need-loop-holds Inv-loop μ-loop
 loop-holds c =
-    let pre = c .before .before .before .before .before .before .before .pre in
-    (refl, refl, refl, refl, refl, refl, pre .3, pre .4, going-first _ _ _ (c .begin .ensures) (pre .0) (pre .1) (pre .2))
+    let (size, room) = c .before .before .before .before .pre in
+    going-first (c .begin .ensures) size room
 
 read-some-requires : tie.Need-read-some-requires Inv-loop μ-loop
 read-some-requires c κs =
-    let at-loop = c .before .before .before .before .before .before .loop in
-    (at-loop .inv .8 .reading, at-loop .inv .6, at-loop .inv .7)
+    let at-loop = c .before .before .before in
+    (at-loop .loop .inv .reading, at-loop .loop .inv .room)
 
 reads-on-requires : tie.Need-reads-on-requires Inv-loop μ-loop
 reads-on-requires c κs = tt
 
 same-length : tie.Need-same-length Inv-loop μ-loop
 same-length c =
-    let at-read-some = c .before .before .before .before .before .before .before .before .before .before .before .before .before .before in
-    let at-loop = at-read-some .before .before .before .before .before .before .before in
-    at-read-some .read-some .kept .1 .0 ∙ at-loop .loop .inv .0
+    let read = c .before .before .before .before .before .before .before .before in
+    let at-loop = read .before .before .before .before in
+    read .read-some .kept .1 .0 ∙ at-loop .loop .inv .same-chunk
 
 same-length-2 : tie.Need-same-length-2 Inv-loop μ-loop
 same-length-2 c =
-    let at-read-some = c .before .before .before .before .before .before .before .before .before .before .before .before .before .before in
-    let at-loop = at-read-some .before .before .before .before .before .before .before in
-    at-read-some .read-some .kept .1 .1 .0 ∙ at-loop .loop .inv .1
+    let read = c .before .before .before .before .before .before .before .before in
+    let at-loop = read .before .before .before .before in
+    read .read-some .kept .1 .1 .0 ∙ at-loop .loop .inv .same-map
 
 same-length-3 : tie.Need-same-length-3 Inv-loop μ-loop
 same-length-3 c =
-    let at-read-some = c .before .before .before .before .before .before .before .before .before .before .before .before .before .before in
-    let at-loop = at-read-some .before .before .before .before .before .before .before in
-    at-read-some .read-some .kept .1 .1 .1 .0 ∙ at-loop .loop .inv .2
-
-same-length-4 : tie.Need-same-length-4 Inv-loop μ-loop
-same-length-4 c =
-    let at-read-some = c .before .before .before .before .before .before .before .before .before .before .before .before .before .before in
-    let at-loop = at-read-some .before .before .before .before .before .before .before in
-    at-read-some .read-some .kept .1 .1 .1 .1 .0 ∙ at-loop .loop .inv .3
-
-same-length-5 : tie.Need-same-length-5 Inv-loop μ-loop
-same-length-5 c =
-    let at-read-some = c .before .before .before .before .before .before .before .before .before .before .before .before .before .before in
-    let at-loop = at-read-some .before .before .before .before .before .before .before in
-    at-read-some .read-some .kept .1 .1 .1 .1 .1 .0 ∙ at-loop .loop .inv .4
-
-same-length-6 : tie.Need-same-length-6 Inv-loop μ-loop
-same-length-6 c =
-    let at-read-some = c .before .before .before .before .before .before .before .before .before .before .before .before .before .before in
-    let at-loop = at-read-some .before .before .before .before .before .before .before in
-    at-read-some .read-some .kept .1 .1 .1 .1 .1 .1 .0 ∙ at-loop .loop .inv .5
+    let read = c .before .before .before .before .before .before .before .before in
+    let at-loop = read .before .before .before .before in
+    read .read-some .kept .1 .1 .1 .0 ∙ at-loop .loop .inv .same-out
 
 returns : tie.Need-returns Inv-loop μ-loop
 returns c =
-    let at-read-some = c .before .before .before .before .before .before .before .before .before .before .before .before .before .before in
-    let at-loop = at-read-some .before .before .before .before .before .before .before in
-    going-stops (at-loop .loop .inv .8) _ (at-read-some .read-some .ensures) (c .before .reads-on .ensures) (not-true _ (c .if1 .taken))
+    let asked = c .before in
+    let read = asked .before .before .before .before .before .before .before in
+    let at-loop = read .before .before .before .before in
+    going-stops (at-loop .loop .inv) _ (read .read-some .ensures) (asked .reads-on .ensures) (not-true _ (c .if1 .taken))
 
 loop-less : tie.Need-loop-less Inv-loop μ-loop
 loop-less c =
-    let at-read-some = c .before .before .before .before .before .before .before .before .before .before .before .before .before .before .before in
-    let at-loop = at-read-some .before .before .before .before .before .before .before in
-    going-less (at-loop .loop .inv .8) _ (at-read-some .read-some .ensures) (c .before .before .reads-on .ensures) (not-false _ (c .before .if1 .left))
+    let goes-on = c .before in
+    let asked = goes-on .before in
+    let read = asked .before .before .before .before .before .before .before in
+    let at-loop = read .before .before .before .before in
+    going-less (at-loop .loop .inv) _ (read .read-some .ensures) (asked .reads-on .ensures) (not-false _ (goes-on .if1 .left))
 
 loop-again : tie.Need-loop-again Inv-loop μ-loop
 loop-again c =
-    let at-loop = c .before .before .before .before .before .before .before .before .before .before .before .before .before .before .before .before .before .before .before .before .before .before .loop in
-    let some = c .before .before .before .before .before .before .before .before .before .before .before .before .before .before .before .read-some in
-    let kept = some .kept .1 in
-    (kept .0 ∙ at-loop .inv .0, kept .1 .0 ∙ at-loop .inv .1, kept .1 .1 .0 ∙ at-loop .inv .2, kept .1 .1 .1 .0 ∙ at-loop .inv .3, kept .1 .1 .1 .1 .0 ∙ at-loop .inv .4, kept .1 .1 .1 .1 .1 .0 ∙ at-loop .inv .5, omega (arith, kept .1 .1 .1 .1 .0, at-loop .inv .6), omega (arith, kept .1 .1 .1 .1 .1 .0, at-loop .inv .7), going-on (at-loop .inv .8) _ (some .ensures) (c .before .before .reads-on .ensures) (not-false _ (c .before .if1 .left)))
+    let goes-on = c .before in
+    let asked = goes-on .before in
+    let read = asked .before .before .before .before .before .before .before in
+    let at-loop = read .before .before .before .before in
+    let kept = read .read-some .kept .1 in
+    going-on (at-loop .loop .inv) _ (read .read-some .ensures) (asked .reads-on .ensures) (not-false _ (goes-on .if1 .left))
+    (kept .0) (kept .1 .0) (kept .1 .1 .0)
 
 pub read-all-spec : {M : Type 1} → statement M
 read-all-spec =
@@ -100,9 +85,6 @@ read-all-spec =
     same-length
     same-length-2
     same-length-3
-    same-length-4
-    same-length-5
-    same-length-6
     returns
     loop-less
     loop-again)

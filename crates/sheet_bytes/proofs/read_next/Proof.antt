@@ -22,8 +22,8 @@ slice-aggregate-read-line c =
 read-line-requires : tie.Need-read-line-requires
 read-line-requires c κs = tt
 
-add-t13 : tie.Need-add-t13
-add-t13 c =
+add-taken : tie.Need-add-taken
+add-taken c =
     let known = c .before .before .before in
     let whole = known .before .before .find-line .ensures _ (known .found .given .1) in
     omega (arith, whole .short)
@@ -84,7 +84,7 @@ read-next-spec =
     enum-known-found
     slice-aggregate-read-line
     read-line-requires
-    add-t13
+    add-taken
     returns
     enum-told
     shared-slice-read-byte

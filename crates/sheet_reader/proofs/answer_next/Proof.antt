@@ -16,7 +16,7 @@ answer-line-requires c κs =
 
 next-line-requires : tie.Need-next-line-requires
 next-line-requires c κs =
-    let answered = c .before .before .before .before .before .before in
+    let answered = c .before .before .before .before .before .before .before in
     let at-entry = answered .before .before .before .before .before .before .before .before .before .before .before in
     at-entry .pre .1
 
@@ -31,15 +31,15 @@ same-length-3 c = search needs
 
 returns : tie.Need-returns
 returns c =
-    let answered = c .before .before .before .before .before .before .before in
+    let answered = c .before .before .before .before .before .before .before .before in
     let known = answered .before .before .before .before .before in
     line-answered _ _ _ (known .read .given .1) (c .next-line .ensures) (answered .answer-line .ensures)
 
 enum-told : tie.Need-enum-told
 enum-told c = search needs
 
-add-t18 : tie.Need-add-t18
-add-t18 c = search needs
+add-held : tie.Need-add-held
+add-held c = search needs
 
 returns-2 : tie.Need-returns-2
 returns-2 c =
@@ -59,5 +59,5 @@ answer-next-spec =
     same-length-3
     returns
     enum-told
-    add-t18
+    add-held
     returns-2)

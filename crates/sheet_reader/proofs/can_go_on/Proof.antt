@@ -1,6 +1,6 @@
 -- The tests are made in the order of the definition. Assumes nothing.
 use borrow.Author.Tests.{lt-ltb, le-ltb}
-use Rattle.sheet_reader.specs.Reading.{canGoOn}
+use Rattle.sheet_reader.specs.Taking.{canGoOn}
 use Rattle.sheet_reader.proofs.can_go_on.Statement.{statement}
 use Rattle.sheet_reader.proofs.can_go_on.Tie as tie
 

@@ -5,7 +5,7 @@ use Prim.Native.Nat.{ℕ, _-_}
 use native.Mathlib.Omega.{arith}
 use lib.ListN.{length-replicate}
 use Rattle.theory_walk.specs.Claims.{mostHops}
-use Rattle.sheet_reader.specs.Reading.{readerOf}
+use Rattle.sheet_bytes.specs.Reading.{readerOf}
 use Rattle.sheet_reader.proofs.Taking.{Taking, taking-none, can-read, can-answer, reads-on, taking-more, taken}
 use Rattle.sheet_reader.proofs.take_bytes.Statement.{statement}
 use Rattle.sheet_reader.proofs.take_bytes.Tie as tie

@@ -1,49 +1,23 @@
--- What the code keeps of a sheet being read: the reader of the definitions, read off its structs and a lent map. Assumes nothing.
+-- What taking bytes does. Assumes nothing.
 use mathlib.Core.Path.{_≡_}
-use mathlib.Core.Bool.{Bool, true, false, not, _&&_}
+use mathlib.Core.Bool.{Bool, false, not, _&&_}
 use mathlib.Core.List.{List}
 use Prim.Native.Nat.{ℕ, _+_, _≤_, _<_}
 use lib.Dec.{leb, ltb}
 use lib.ListN.{length, take}
 use Rattle.buffers.specs.Over.{Puts}
 use Rattle.theory_sheet.specs.Reader as theory
-use Rattle.theory_sheet.specs.Reader.{begun, Fed, feedAll}
+use Rattle.theory_sheet.specs.Reader.{Fed, feedAll}
 use Rattle.sheet_state.specs.Keeping.{stateOf, Ready}
-use Rattle.sheet_lines.specs.declared.Answered.{Answered}
 use Rattle.sheet_lines.specs.Answers.{answerRoom}
+use Rattle.sheet_bytes.specs.declared.Standing.{Standing}
+use Rattle.sheet_bytes.specs.declared.Reader.{Reader}
 use Rattle.sheet_bytes.specs.declared.Read.{Read}
 use Rattle.sheet_bytes.specs.declared.Read.the-variants.{Part}
+use Rattle.sheet_bytes.specs.Reading.{readerOf, Reading}
 use Rattle.sheet_bytes.specs.Next.{readFed}
-use Rattle.sheet_reader.specs.declared.Standing.{Standing}
-use Rattle.sheet_reader.specs.declared.Reader.{Reader}
 use Rattle.sheet_reader.specs.declared.Advance.{Advance}
 use Rattle.sheet_reader.specs.declared.Taken.{Taken}
-
--- the reader of the definitions
-abbrev pub readerOf : Reader → List ℕ → theory.Reader
-readerOf r map =
-    record {
-      number = r .standing .number;
-      state = stateOf (r .standing .sheet) map;
-      held = take (r .standing .held) (r .hold);
-      over = r .standing .over;
-    }
-
--- where a sheet stands after line n
-abbrev pub nextLine : ℕ → Answered → Standing
-nextLine n x = record { sheet = x .sheet; number = n + 1; held = 0; over = x .ends }
-
--- at most 20 bytes are held, of a line that is at most the 65,536th
-pub record Reading (r : Reader) (map : List ℕ) : Type 0 where
-  pub room : length (r .hold) ≡ 20
-  pub short : r .standing .held ≤ 20
-  pub few : r .standing .over ≡ false → r .standing .number ≤ 65536
-  pub ready : r .standing .over ≡ false → Ready (r .standing .sheet) map
-
--- the reader of a sheet of which nothing is read yet
-pub record Begins (r : Reader) : Type 0 where
-  pub begins : (map : List ℕ) → readerOf r map ≡ begun
-  pub reading : (map : List ℕ) → 4096 ≤ length map → Reading r map
 
 -- bytes are taken as the definition says: r is the reader after them, x the index after what is printed
 pub record Feeds (f : Fed) (out : List ℕ) (at : ℕ) (r : Reader) (x : ℕ) (map after : List ℕ) : Type 0 where

@@ -2,8 +2,8 @@
 use mathlib.Core.Path.{refl}
 use native.Mathlib.Omega.{arith}
 use Rattle.sheet_state.proofs.Phases.{start-faults, start-sends}
-use Rattle.sheet_reader.proofs.begin.Statement.{statement}
-use Rattle.sheet_reader.proofs.begin.Tie as tie
+use Rattle.sheet_bytes.proofs.begin.Statement.{statement}
+use Rattle.sheet_bytes.proofs.begin.Tie as tie
 
 returns : tie.Need-returns
 returns c =
