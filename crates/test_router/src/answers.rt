@@ -47,37 +47,6 @@ fn arrive(hops: u32, room: usize) -> u32 {
     hops
 }
 
-// Walks the hops by the rules and writes their letters, also if there is no room for them.
-fn walk(
-    size: Size,
-    list: &[u8; 4096],
-    n: usize,
-    trip: Trip,
-    room: usize,
-    letters: &mut [u8; 4096],
-) -> u32 {
-    let mut t = trip;
-    let mut last: u8 = 0;
-    let mut i: u32 = 0;
-    while i < 4096 {
-        if is_over(t) {
-            return arrive(i, room);
-        }
-        let h = next_hop(list, n, t, last);
-        if is_forbidden(t.column, last, h) {
-            return REFUSED + 9;
-        }
-        t = after(t, h);
-        if is_closed(size, list, n, t) {
-            return REFUSED + 9;
-        }
-        letters[i as usize] = h;
-        last = h;
-        i += 1;
-    }
-    REFUSED
-}
-
 // Refusals 6 to 8, or 0: a ring is a box grown by one row each way and two columns.
 fn refuse(size: Size, list: &[u8; 4096], n: usize, t: Trip) -> u32 {
     if is_off(size, t.row, t.column) {
@@ -98,20 +67,39 @@ fn refuse(size: Size, list: &[u8; 4096], n: usize, t: Trip) -> u32 {
     0
 }
 
-// The number of hops, or the refusal.
+// The number of hops, or the refusal. Walks the hops by the rules and writes their letters, also if there is no room for them.
 pub fn answer_route(
     size: Size,
     list: &[u8; 4096],
     n: usize,
-    t: Trip,
+    trip: Trip,
     room: usize,
     letters: &mut [u8; 4096],
 ) -> u32 {
-    let refused = refuse(size, list, n, t);
+    let refused = refuse(size, list, n, trip);
     if refused != 0 {
         return refused;
     }
-    walk(size, list, n, t, room, letters)
+    let mut t = trip;
+    let mut last: u8 = 0;
+    let mut i: u32 = 0;
+    while i < 4096 {
+        if is_over(t) {
+            return arrive(i, room);
+        }
+        let h = next_hop(list, n, t, last);
+        if is_forbidden(t.column, last, h) {
+            return REFUSED + 9;
+        }
+        t = after(t, h);
+        if is_closed(size, list, n, t) {
+            return REFUSED + 9;
+        }
+        letters[i as usize] = h;
+        last = h;
+        i += 1;
+    }
+    REFUSED
 }
 
 fn distance(x: u8, y: u8) -> u8 {

@@ -2,14 +2,20 @@
 use Prim.Native.Nat.{_≤_, _-_}
 use native.Mathlib.Omega.{arith}
 use borrow.Author.Needs.{needs}
-use Rattle.test_router.proofs.answers.walk.Statement.{statement}
-use Rattle.test_router.proofs.answers.walk.Tie as tie
+use Rattle.test_router.proofs.answers.answer_route.Statement.{statement}
+use Rattle.test_router.proofs.answers.answer_route.Tie as tie
 
 abbrev Inv-loop : tie.InvT-loop
-Inv-loop size list n room letters₀ t₀ last₀ i₀ letters t last i = i ≤ 4096
+Inv-loop size list n room letters₀ refused t₀ last₀ i₀ letters t last i = i ≤ 4096
 
 abbrev μ-loop : tie.MeasureT-loop
-μ-loop size list n room letters₀ t₀ last₀ i₀ letters t last i = 4096 - i
+μ-loop size list n room letters₀ refused t₀ last₀ i₀ letters t last i = 4096 - i
+
+refuse-requires : tie.Need-refuse-requires Inv-loop μ-loop
+refuse-requires c κs = search needs
+
+returns : tie.Need-returns Inv-loop μ-loop
+returns c = search needs
 
 loop-holds : tie.Need-loop-holds Inv-loop μ-loop
 loop-holds c = omega arith
@@ -20,8 +26,8 @@ is-over-requires c κs = search needs
 arrive-requires : tie.Need-arrive-requires Inv-loop μ-loop
 arrive-requires c κs = search needs
 
-returns : tie.Need-returns Inv-loop μ-loop
-returns c = search needs
+returns-2 : tie.Need-returns-2 Inv-loop μ-loop
+returns-2 c = search needs
 
 next-hop-requires : tie.Need-next-hop-requires Inv-loop μ-loop
 next-hop-requires c κs = search needs
@@ -32,8 +38,8 @@ is-forbidden-requires c κs = search needs
 add-result : tie.Need-add-result Inv-loop μ-loop
 add-result c = omega arith
 
-returns-2 : tie.Need-returns-2 Inv-loop μ-loop
-returns-2 c = search needs
+returns-3 : tie.Need-returns-3 Inv-loop μ-loop
+returns-3 c = search needs
 
 after-requires : tie.Need-after-requires Inv-loop μ-loop
 after-requires c κs = search needs
@@ -44,8 +50,8 @@ is-closed-requires c κs = search needs
 add-result-2 : tie.Need-add-result-2 Inv-loop μ-loop
 add-result-2 c = omega arith
 
-returns-3 : tie.Need-returns-3 Inv-loop μ-loop
-returns-3 c = search needs
+returns-4 : tie.Need-returns-4 Inv-loop μ-loop
+returns-4 c = search needs
 
 cast-letters : tie.Need-cast-letters Inv-loop μ-loop
 cast-letters c = omega arith
@@ -62,30 +68,32 @@ loop-less c = omega arith
 loop-again : tie.Need-loop-again Inv-loop μ-loop
 loop-again c = omega arith
 
-returns-4 : tie.Need-returns-4 Inv-loop μ-loop
-returns-4 c = search needs
+returns-5 : tie.Need-returns-5 Inv-loop μ-loop
+returns-5 c = search needs
 
-pub walk-spec : {M : Type 1} → statement M
-walk-spec =
+pub answer-route-spec : {M : Type 1} → statement M
+answer-route-spec =
     tie.close
     (tie.spec
     Inv-loop
     μ-loop
+    refuse-requires
+    returns
     loop-holds
     is-over-requires
     arrive-requires
-    returns
+    returns-2
     next-hop-requires
     is-forbidden-requires
     add-result
-    returns-2
+    returns-3
     after-requires
     is-closed-requires
     add-result-2
-    returns-3
+    returns-4
     cast-letters
     element-write-letters
     add-i
     loop-less
     loop-again
-    returns-4)
+    returns-5)
