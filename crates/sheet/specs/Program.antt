@@ -10,16 +10,8 @@ use Rattle.theory_sheet.specs.Reader as theory
 use Rattle.theory_sheet.specs.Reader.{begun, feedAll}
 use Rattle.sheet_bytes.specs.declared.Reader.{Reader}
 use Rattle.sheet_bytes.specs.Reading.{readerOf, Reading}
+use Rattle.sheet_writer.specs.Writing.{Answers}
 use Rattle.sheet.specs.declared.Read.{Read}
-
--- answering goes on: bytes are left, the run is not over, and its answers were written
-unfoldable pub answersOn : ℕ → ℕ → Bool → Bool → Bool
-answersOn used n over written = ltb used n && (not over && written)
-
--- bytes are answered: all of them are fed, unless a write failed
-pub record Answers (r : theory.Reader) (bytes : List ℕ) (x : Reader) (written : Bool) (map : List ℕ) : Type 0 where
-  pub fed : written ≡ true → readerOf x map ≡ feedAll r bytes .next
-  pub reading : Reading x map
 
 -- what came is within the chunk, and is answered
 pub record Reads (r : theory.Reader) (x : Read) (chunk map : List ℕ) : Type 0 where

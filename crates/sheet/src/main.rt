@@ -4,20 +4,14 @@ ghost use Prim.Native.Nat.{_≤_};
 ghost use lib.ListN.{length};
 ghost use Rattle.sheet_lines.specs.Answers.{answerRoom};
 ghost use Rattle.sheet_bytes.specs.Reading.{readerOf, Reading};
-ghost use Rattle.sheet.specs.Program.{answersOn, Answers, Reads, goesOn, ReadsAll};
+ghost use Rattle.sheet.specs.Program.{Reads, goesOn, ReadsAll};
 use libc::STDERR_FILENO;
 use libc::STDIN_FILENO;
 use libc::STDOUT_FILENO;
 use sheet_bytes::Reader;
 use sheet_bytes::begin;
 use sheet_reader::finish;
-use sheet_reader::take_bytes;
-
-// The reader after some bytes, and whether their answers could be written.
-struct Answered {
-    reader: Reader,
-    written: bool,
-}
+use sheet_writer::answer_some;
 
 // What came of a read: how many bytes, or that it failed; the reader after them, and whether their answers could be written.
 struct Read {
@@ -25,37 +19,6 @@ struct Read {
     failed: bool,
     reader: Reader,
     written: bool,
-}
-
-// Whether to answer on: bytes are left, the run is not over, and its answers could be written.
-fn answers_on(used: usize, n: usize, over: bool, written: bool) -> bool
-    ensures { λ x. ⌜ x ≡ answersOn used n over written ⌝ }
-{
-    if n <= used {
-        return false;
-    }
-    if over {
-        return false;
-    }
-    written
-}
-
-// Answers bytes of the sheet, as many at a time as there is room for, and writes the answers.
-fn answer_some(reader: Reader, bytes: &[u8], map: &mut [u8], out: &mut [u8]) -> Answered
-    requires { ⌜ Reading reader (now map) × (answerRoom ≤ length (now out)) ⌝ }
-    ensures { λ x. ⌜ Answers (readerOf reader (now (map .entry))) (now (bytes .entry)) (x .reader) (x .written) (now (map .exit)) ⌝ }
-{
-    let n = bytes.len();
-    let mut r = reader;
-    let mut written = true;
-    let mut used = 0;
-    while answers_on(used, n, r.standing.over, written) {
-        let taken = take_bytes(r, &bytes[used..], map, out);
-        r = taken.reader;
-        written = io::write_all(STDOUT_FILENO, &out[..taken.at]);
-        used += taken.taken;
-    }
-    Answered { reader: r, written }
 }
 
 // Reads once, and answers what came.

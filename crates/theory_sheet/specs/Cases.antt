@@ -54,5 +54,11 @@ cases =
     []
 
 pub cases-print : T (allPrint cases)
-unfolding cases allPrint sheet answers atEnd lineStep commandOf commandStep answering answerTo sendAnswer answerOf change opening blocksLine isMisplaced faultLine meshLine linesOf before okLine spacedLetters line decimal digits commandAt command send sendTo fault sizes ended begins two words.first second spaced number more isDigit bytes hopsOf requestTests tripTests placeTests unserved onARing inBlock offMesh misplaced misplacedAt some badSize allowed bound detours distance shutIn walk hopAt arrived moved hop otherRow nearing across leaving inRow atDestination again stopped own toward side blocked onSomeRing onRing reaches blocks select blockAt corner run settle sameList round advance become unsafe ruleB ruleA upright ahead bad isBad first turnsWest letters columnAfter rowAfter onMesh
+unfolding cases allPrint sheet answers atEnd lineStep commandOf commandStep answering answerTo sendAnswer answerOf
+    change opening blocksLine isMisplaced faultLine meshLine linesOf before okLine spacedLetters line decimal digits
+    commandAt command send sendTo fault sizes ended begins two words.first second spaced number more isDigit bytes
+    hopsOf requestTests tripTests placeTests unserved onARing inBlock offMesh misplaced misplacedAt some badSize allowed
+    bound detours distance shutIn walk hopAt arrived moved hop otherRow nearing across leaving inRow atDestination again
+    stopped own toward side blocked onSomeRing onRing reaches blocks select blockAt corner run settle sameList round
+    advance become unsafe ruleB ruleA upright ahead bad isBad first turnsWest letters columnAfter rowAfter onMesh
 cases-print = tt

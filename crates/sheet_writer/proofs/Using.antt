@@ -1,13 +1,12 @@
 -- What the loop over the bytes that came keeps: part by part they are fed as the whole. Assumes nothing.
 use mathlib.Core.Path.{_≡_, refl, sym, ap, _∙_}
 use mathlib.Core.Logic.{inl, inr}
-use mathlib.Core.Bool.{Bool, true, false, not, _&&_}
+use mathlib.Core.Bool.{Bool, true, false}
 use mathlib.Core.List.{List}
 use Prim.Native.Nat.{ℕ, _+_, _≤_, _<_}
 use native.Mathlib.Decide.{decLt}
 use native.Mathlib.Omega.{arith}
 use borrow.Author.Tests.{ltb-true, lt-ltb, not-true}
-use lib.Dec.{ltb}
 use lib.ListN.{length, take, drop, take-append-drop}
 use lib.Seq.{take-all}
 use Rattle.mesh.proofs.Bools.{value, true-false, and-both}
@@ -20,7 +19,7 @@ use Rattle.sheet_bytes.specs.Reading.{readerOf, Reading}
 use Rattle.sheet_reader.specs.declared.Taken.{Taken}
 use Rattle.sheet_reader.specs.Taking.{TakesBytes}
 use Rattle.sheet_reader.proofs.Parts.{from, from-size, from-more}
-use Rattle.sheet.specs.Program.{answersOn, Answers}
+use Rattle.sheet_writer.specs.Writing.{answersOn, Answers}
 
 -- of a part of which nothing was taken nothing was printed; so something is taken, unless the run is over
 takes-some : {r : theory.Reader} {bytes out map after : List ℕ} (x : Taken) → TakesBytes r bytes out x map after → r .over ≡ false → 1 ≤ length bytes → answerRoom ≤ length out → 1 ≤ x .taken

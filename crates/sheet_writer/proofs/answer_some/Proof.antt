@@ -5,9 +5,9 @@ use Prim.Native.Nat.{_-_}
 use native.Mathlib.Omega.{arith}
 use lib.Seq.{length-take-le}
 use Rattle.sheet_bytes.specs.Reading.{readerOf}
-use Rattle.sheet.proofs.Using.{Using, using-none, uses-more, using-more, used-up}
-use Rattle.sheet.proofs.answer_some.Statement.{statement}
-use Rattle.sheet.proofs.answer_some.Tie as tie
+use Rattle.sheet_writer.proofs.Using.{Using, using-none, uses-more, using-more, used-up}
+use Rattle.sheet_writer.proofs.answer_some.Statement.{statement}
+use Rattle.sheet_writer.proofs.answer_some.Tie as tie
 
 abbrev Inv-loop : tie.InvT-loop
 Inv-loop bytes map₀ out₀ n r₀ written₀ used₀ map out r written used =

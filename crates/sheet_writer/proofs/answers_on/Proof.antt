@@ -1,8 +1,8 @@
 -- The tests are made in the order of the definition. Assumes nothing.
 use borrow.Author.Tests.{lt-ltb, le-ltb}
-use Rattle.sheet.specs.Program.{answersOn}
-use Rattle.sheet.proofs.answers_on.Statement.{statement}
-use Rattle.sheet.proofs.answers_on.Tie as tie
+use Rattle.sheet_writer.specs.Writing.{answersOn}
+use Rattle.sheet_writer.proofs.answers_on.Statement.{statement}
+use Rattle.sheet_writer.proofs.answers_on.Tie as tie
 
 returns : tie.Need-returns
 unfolding answersOn
