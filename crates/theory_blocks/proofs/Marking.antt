@@ -17,7 +17,7 @@ use Rattle.mesh.specs.Rounds.{become, advance, round, on, sameList, settle, mar
 use Rattle.mesh.proofs.Lists.{same-eq, same-refl}
 use Rattle.mesh.proofs.Bools.{true-false, value, and-both, or-cases}
 use Rattle.mesh.proofs.Index.{index-row, index-column, index-within}
-use Rattle.theory_blocks.specs.Marking.{Closed, OnMesh, Holds}
+use Rattle.theory_blocks.specs.Marking.{Closed, NoneBeyond, Holds}
 use Rattle.theory_blocks.proofs.Rules.{unsafe-holds, unsafe-mono}
 
 -- One round.
@@ -43,7 +43,7 @@ isBad-become false zero = refl
 isBad-become true (suc x) = refl
 isBad-become false (suc x) = refl
 
-pub bad-on-mesh : (w : Mesh) → OnMesh (w .columns) (w .rows) (bad w)
+pub bad-on-mesh : (w : Mesh) → NoneBeyond (w .columns) (w .rows) (bad w)
 unfolding bad onMesh
 bad-on-mesh w =
     record {

@@ -10,7 +10,7 @@ use borrow.Author.Tests.{leb-true, le-leb}
 use lib.Dec.{leb}
 use Rattle.mesh.specs.Nodes.{ahead, upright, ruleA, ruleB, unsafe}
 use Rattle.mesh.proofs.Bools.{true-false, value, and-both, and-intro, or-cases, bool-ext}
-use Rattle.theory_blocks.specs.Marking.{Closed, OnMesh, Holds}
+use Rattle.theory_blocks.specs.Marking.{Closed, NoneBeyond, Holds}
 
 -- A line of nodes P is a row, B r, or a column.
 abbrev pub column : (ℕ → ℕ → Bool) → ℕ → ℕ → Bool
@@ -151,7 +151,7 @@ module _ {columns rows : ℕ} {B : ℕ → ℕ → Bool} (closed : Closed column
   pub unsafe-holds : (r c : ℕ) → r < rows → c < columns → unsafe B r c ≡ true → B r c ≡ true
   unsafe-holds r c p q u = elim (value (B r c)) [ inl e ↦ e | inr e ↦ true-false u (closed .rests r c p q e) ]
 
-  module _ (on-mesh : OnMesh columns rows B) where
+  module _ (on-mesh : NoneBeyond columns rows B) where
     -- (x, c) and (r, y) are bad, next to (r, c) and one or two from it
     fills : (r c x y : ℕ) → B x c ≡ true → B r y ≡ true →
         (x ≡ r → ⊥) × (r ≤ x + 1) × (x ≤ r + 1) × (y ≡ c → ⊥) × (c ≤ y + 2) × (y ≤ c + 2) → B r c ≡ true

@@ -9,7 +9,7 @@ pub record Closed (columns rows : ℕ) (B : ℕ → ℕ → Bool) : Type 0 where
   pub rests : (r c : ℕ) → r < rows → c < columns → B r c ≡ false → unsafe B r c ≡ false
 
 -- nothing is bad beyond the mesh
-pub record OnMesh (columns rows : ℕ) (B : ℕ → ℕ → Bool) : Type 0 where
+pub record NoneBeyond (columns rows : ℕ) (B : ℕ → ℕ → Bool) : Type 0 where
   pub row : (r c : ℕ) → B r c ≡ true → r < rows
   pub column : (r c : ℕ) → B r c ≡ true → c < columns
 
