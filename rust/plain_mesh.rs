@@ -197,18 +197,20 @@ fn reverses(last: u8, h: u8) -> bool {
     matches!((last, h), (b'E', b'W') | (b'W', b'E') | (b'N', b'S') | (b'S', b'N'))
 }
 
-/// Whether a turn is forbidden in column c.
-fn is_forbidden(last: u8, h: u8, c: i32) -> bool {
+/// The rule of document 001 that a turn breaks in column c, if any.
+fn broken_rule(last: u8, h: u8, c: i32) -> Option<u32> {
     match (last, h) {
-        (b'E', b'N' | b'S') => c % 2 == 0,
-        (b'N' | b'S', b'W') => c % 2 == 1,
-        _ => false,
+        (b'E', b'N') if c % 2 == 0 => Some(1),
+        (b'N', b'W') if c % 2 == 1 => Some(1),
+        (b'E', b'S') if c % 2 == 0 => Some(2),
+        (b'S', b'W') if c % 2 == 1 => Some(2),
+        _ => None,
     }
 }
 
 impl Mesh {
     pub fn is_lawful(&self, at: Node, last: u8, h: u8) -> bool {
-        self.mark(after(at, h)) == Some(0) && !reverses(last, h) && !is_forbidden(last, h, at.1)
+        self.mark(after(at, h)) == Some(0) && !reverses(last, h) && broken_rule(last, h, at.1).is_none()
     }
 
     /// The hop rules 2 to 6.
@@ -316,8 +318,8 @@ impl Mesh {
             if reverses(last, h) {
                 return (13, i);
             }
-            if is_forbidden(last, h, at.1) {
-                return (14, i);
+            if let Some(rule) = broken_rule(last, h, at.1) {
+                return (if rule == 1 { 14 } else { 17 }, i);
             }
             if mark != 0 {
                 return (15, i);

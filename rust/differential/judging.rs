@@ -8,8 +8,8 @@ use crate::wrapper::raw::{self, library};
 
 #[derive(Default)]
 pub struct Judging {
-    answers: [u64; 17], // by number; 0 passed
-    with_index: [u64; 17], // of these, with room for the index
+    answers: [u64; 18], // by number; 0 passed
+    with_index: [u64; 18], // of these, with room for the index
     nulls: [u64; 3],    // map, letters, index
 }
 
@@ -72,9 +72,9 @@ impl Judging {
 
     /// Prints counts, and says whether every answer, with an index too, and every null pointer was met.
     pub fn report(&self) -> bool {
-        println!("judge: passed, numbers 1 to 16: {:?}; null for map, letters, index: {:?}", self.answers, self.nulls);
+        println!("judge: passed, numbers 1 to 17: {:?}; null for map, letters, index: {:?}", self.answers, self.nulls);
         println!("    with room for the index: {:?}", self.with_index);
-        let all = || (0..8).chain(11..17);
+        let all = || (0..8).chain(11..18);
         met(&self.answers, all()) && met(&self.with_index, all()) && met(&self.nulls, 0..3)
     }
 }

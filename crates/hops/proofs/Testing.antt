@@ -1,14 +1,16 @@
--- A hop is tested in the order of the numbers, so each mistake is the first whose test holds. Assumes nothing.
+-- A hop is tested in the order of the definition, so each mistake is the first whose test holds. Assumes nothing.
 use mathlib.Core.Path.{_≡_, refl, sym, _∙_}
 use mathlib.Core.Bool.{Bool, true, false, not}
 use Prim.Native.Nat.{ℕ}
 use native.Mathlib.Omega.{arith}
 use borrow.Author.Tests.{not-true, not-false}
+use Rattle.mesh.specs.declared.Broken.{Broken}
+use Rattle.mesh.specs.declared.Broken.the-variants.{Neither, Rule1, Rule2}
 use Rattle.mesh.specs.declared.Heading.{Heading}
 use Rattle.mesh.specs.declared.Heading.the-variants.{East as E, North as N, South as S, West as W}
 use Rattle.mesh.specs.declared.Letter.the-variants.{Hop}
 use Rattle.mesh.specs.declared.Mistake.{Mistake}
-use Rattle.mesh.specs.declared.Mistake.the-variants.{LeavesMesh, Reverses, ForbiddenTurn, EntersBlock}
+use Rattle.mesh.specs.declared.Mistake.the-variants.{LeavesMesh, Reverses, BreaksRule1, BreaksRule2, EntersBlock}
 use Rattle.mesh.specs.declared.Tested.the-variants.{Lawful, Wrong}
 use Rattle.mesh.specs.declared.Packet.{Packet}
 use Rattle.mesh.specs.Mesh.{Mesh}
@@ -17,7 +19,7 @@ use Rattle.mesh.specs.Parity.{turnsWest}
 use Rattle.mesh.specs.Tests.{first}
 use Rattle.mesh.specs.Numbers.{mistakeNumber, testedNumber}
 use Rattle.mesh.specs.Nodes.{bad, ahead}
-use Rattle.mesh.specs.Turns.{turnsBack, turnsWrong}
+use Rattle.mesh.specs.Turns.{hopBreaks, turnsBack}
 use Rattle.mesh.specs.Rules.{blocked}
 use Rattle.mesh.specs.Hops.{moved, stays, at, tripOf, movedPacket}
 use Rattle.mesh.specs.Judging.{hopTests, letterMistake}
@@ -49,12 +51,16 @@ module _ (w : Mesh) (p : Packet) (h : Heading) where
       unfolding letterMistake hopTests first
       turns-back e = wrong Reverses (rw (on-mesh, ← is-b, e))
 
-      module _ (ahead : b ≡ false) {t : Bool} (is-t : t ≡ turnsWrong turnsWest (p .place .column .0) (p .last) h) where
-        pub turns-wrong : t ≡ true → Tests w p h (Wrong ForbiddenTurn)
+      module _ (ahead : b ≡ false) {t : Broken} (is-t : t ≡ hopBreaks turnsWest (p .place .column .0) (p .last) h) where
+        pub breaks-1 : t ≡ Rule1 → Tests w p h (Wrong BreaksRule1)
         unfolding letterMistake hopTests first
-        turns-wrong e = wrong ForbiddenTurn (rw (on-mesh, ← is-b, ahead, ← is-t, e))
+        breaks-1 e = wrong BreaksRule1 (rw (on-mesh, ← is-b, ahead, ← is-t, e))
 
-        module _ (may : t ≡ false) {q : Packet} (is-q : q ≡ movedPacket h p) {x : Bool}
+        pub breaks-2 : t ≡ Rule2 → Tests w p h (Wrong BreaksRule2)
+        unfolding letterMistake hopTests first
+        breaks-2 e = wrong BreaksRule2 (rw (on-mesh, ← is-b, ahead, ← is-t, e))
+
+        module _ (may : t ≡ Neither) {q : Packet} (is-q : q ≡ movedPacket h p) {x : Bool}
             (is-x : x ≡ bad w (q .place .row .0) (q .place .column .0)) where
           is-blocked : x ≡ blocked (tripOf w p) h 1 (p .place .row .0) (p .place .column .0)
           unfolding blocked moved

@@ -8,6 +8,7 @@ ghost use Rattle.mesh.specs.Hops.{stays, isThere};
 ghost use Rattle.nodes.specs.Sized.{Sized, OnMesh};
 ghost use Rattle.hops.specs.Moved.{rowBy, columnBy, movedBy, Lands, Reaches, Free};
 ghost use Rattle.hops.specs.Tests.{Tests};
+use mesh::Broken;
 use mesh::Column;
 use mesh::Heading;
 use mesh::Last;
@@ -17,8 +18,8 @@ use mesh::Place;
 use mesh::Row;
 use mesh::Tested;
 use nodes::is_bad_node;
+use turns::hop_breaks;
 use turns::turns_back;
-use turns::turns_wrong;
 
 // Whether the hop stays on the mesh.
 fn stays(columns: u32, rows: u32, r: Row, c: Column, h: Heading) -> bool
@@ -93,7 +94,7 @@ pub fn count_free(columns: u32, rows: u32, marks: &[u8], s: Place, h: Heading, n
     n
 }
 
-// What is wrong with a hop, tested in the order of the numbers.
+// What is wrong with a hop, tested in the order of the paper.
 pub fn test_hop(columns: u32, rows: u32, marks: &[u8], p: Packet, h: Heading) -> Tested
     requires { ⌜ OnMesh columns rows (now marks) (p .place .row .0) (p .place .column .0) ⌝ }
     ensures { λ x. ⌜ Tests (mesh columns rows (now (marks .entry))) p h x ⌝ }
@@ -108,8 +109,11 @@ pub fn test_hop(columns: u32, rows: u32, marks: &[u8], p: Packet, h: Heading) ->
     if turns_back(l, h) {
         return Tested::Wrong(Mistake::Reverses);
     }
-    if turns_wrong(l, h, c) {
-        return Tested::Wrong(Mistake::ForbiddenTurn);
+    let broken = hop_breaks(l, h, c);
+    match broken {
+        Broken::Neither => {}
+        Broken::Rule1 => return Tested::Wrong(Mistake::BreaksRule1),
+        Broken::Rule2 => return Tested::Wrong(Mistake::BreaksRule2),
     }
     if is_bad_node(columns, rows, marks, after.place.row, after.place.column) {
         return Tested::Wrong(Mistake::EntersBlock);

@@ -6,7 +6,7 @@ use native.Mathlib.Omega.{arith}
 use Rattle.mesh.specs.declared.Refusal.{Refusal}
 use Rattle.mesh.specs.declared.Refusal.the-variants.{Columns, Rows, MapLength, MapByte, FaultPlace, OffMesh, InBlock, OnRing, Unlawful, Room}
 use Rattle.mesh.specs.declared.Mistake.{Mistake}
-use Rattle.mesh.specs.declared.Mistake.the-variants.{NoLetter, LeavesMesh, Reverses, ForbiddenTurn, EntersBlock, NotArrived}
+use Rattle.mesh.specs.declared.Mistake.the-variants.{NoLetter, LeavesMesh, Reverses, BreaksRule1, BreaksRule2, EntersBlock, NotArrived}
 use Rattle.mesh.specs.Numbers.{number, mistakeNumber, refused, answer, written}
 
 pub number-some : (why : Refusal) → number why ≡ suc (pred (number why))
@@ -37,7 +37,8 @@ pub mistake-some : (m : Mistake) → mistakeNumber m ≡ suc (pred (mistakeNumbe
 mistake-some NoLetter = refl
 mistake-some LeavesMesh = refl
 mistake-some Reverses = refl
-mistake-some ForbiddenTurn = refl
+mistake-some BreaksRule1 = refl
+mistake-some BreaksRule2 = refl
 mistake-some EntersBlock = refl
 mistake-some NotArrived = refl
 

@@ -2,10 +2,10 @@
 use mathlib.Core.Path.{_≡_, refl, sym, _∙_}
 use mathlib.Core.Bool.{Bool, true, false, cond, _&&_}
 use mathlib.Core.List.{List, [], _∷_, _++_}
-use Prim.Native.Nat.{ℕ, zero, suc}
+use Prim.Native.Nat.{ℕ, zero, suc, _≤_}
 use native.Mathlib.Omega.{arith}
-use borrow.Author.Tests.{ltb-true}
-use lib.Dec.{ltb}
+use borrow.Author.Tests.{leb-true, ltb-true}
+use lib.Dec.{leb, ltb}
 use Rattle.mesh.specs.declared.Refusal.{Refusal}
 use Rattle.mesh.specs.declared.Checked.{Checked}
 use Rattle.mesh.specs.declared.Checked.the-variants.{Clear, Refused}
@@ -42,6 +42,20 @@ first-none (t ∷ ts) n h = by (t .holds) (first-none ts (and-both {a = ltb 0 (t
     by : (b : Bool) → (first ts ≡ 0 → None ts) → cond b (t .number) (first ts) ≡ 0 → (b ≡ false) × None ts
     by true rest h = absurd (omega (arith, ltb-true 0 (t .number) (and-both n .0)))
     by false rest h = (refl, rest h)
+
+-- no test has a number above m
+unfoldable pub numberedTo : ℕ → List Test → Bool
+numberedTo m [] = true
+numberedTo m (t ∷ ts) = leb (t .number) m && numberedTo m ts
+
+pub first-most : (m : ℕ) (ts : List Test) → numberedTo m ts ≡ true → first ts ≤ m
+unfolding first numberedTo
+first-most m [] n = omega arith
+first-most m (t ∷ ts) n = by (t .holds) (first-most m ts (and-both {a = leb (t .number) m} n .1))
+  where
+    by : (b : Bool) → first ts ≤ m → cond b (t .number) (first ts) ≤ m
+    by true rest = leb-true (t .number) m (and-both n .0)
+    by false rest = rest
 
 first-next : (ts us : List Test) → None ts → first (ts ++ us) ≡ first us
 unfolding first None

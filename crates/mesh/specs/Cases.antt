@@ -1,4 +1,5 @@
--- The starred bench cases of document 01, on 10 columns by 8 rows, in one list with one claim. Assumes nothing.
+-- The starred bench cases of document 01, on 10 columns by 8 rows, in one list with one claim; and in another what judging says of turns.
+-- Assumes nothing.
 use mathlib.Core.Bool.{Bool, true, _&&_}
 use mathlib.Core.List.{List, [], _∷_}
 use Prim.Native.Nat.{ℕ, _+_, _-_, _*_}
@@ -10,18 +11,20 @@ use lib.ListN.{set, replicate}
 use Rattle.mesh.specs.Mesh as places
 use Rattle.mesh.specs.Mesh.{mesh, onMesh}
 use Rattle.mesh.specs.declared.Place.{Place}
-use Rattle.mesh.specs.Headings.{rowAfter, columnAfter, letters}
+use Rattle.mesh.specs.Headings.{rowAfter, columnAfter, opposite, letters, same, named}
 use Rattle.mesh.specs.Parity.{turnsWest}
 use Rattle.mesh.specs.Tests.{first}
 use Rattle.mesh.specs.Nodes.{isBad, bad, ahead, upright, ruleA, ruleB, unsafe}
 use Rattle.mesh.specs.Rounds.{become, advance, round, sameList, settle, marked}
 use Rattle.mesh.specs.Blocks.{Block, run, corner, blockAt, select, blocks, reaches, onRing, onSomeRing}
+use Rattle.mesh.specs.Turns.{breaks, turnBreaks, hopBreaks, reverses, turnsBack}
 use Rattle.mesh.specs.Rules.{blocked, side, toward, own, stopped, again, atDestination, inRow, leaving, across, nearing, otherRow, hop}
-use Rattle.mesh.specs.Hops.{moved}
+use Rattle.mesh.specs.Hops.{moved, stays}
 use Rattle.mesh.specs.Walk.{arrived, hopAt, walk, shutIn, distance, detours, bound}
 use Rattle.mesh.specs.Maps.{badSize, badLength, some, badByte, allowed, misplacedAt, misplaced, mapTests}
 use Rattle.mesh.specs.Requests.{offMesh, inBlock, onARing, unserved, placeTests, tripTests, requestTests}
 use Rattle.mesh.specs.Routing.{hopsOf, sendTests, routeRefusal}
+use Rattle.mesh.specs.Judging.{hopTests, letterMistake, follow, Verdict, unless, judge, verdictCode, verdictIndex, judgeFrom, judgement}
 
 -- faults by row and column, (r, c), and the map that they make
 abbrev pub faultMap : List (ℕ × ℕ) → List ℕ
@@ -35,6 +38,8 @@ pub data Case : Type 0 where
   routes : List (ℕ × ℕ) → ℕ × ℕ → ℕ × ℕ → String → Case
   -- the faults, source, destination, and the number of the refusal
   refuses : List (ℕ × ℕ) → ℕ × ℕ → ℕ × ℕ → ℕ → Case
+  -- the faults, source, destination, the letters of a hand-in, and its verdict: 0 or the number of what is wrong, the length or the index
+  judges : List (ℕ × ℕ) → ℕ × ℕ → ℕ × ℕ → String → ℕ → ℕ → Case
 
 unfoldable pub edges : List Block → List ℕ
 edges [] = []
@@ -51,11 +56,15 @@ place p = places.place (p .0) (p .1)
 unfoldable pub refusal : List (ℕ × ℕ) → ℕ × ℕ → ℕ × ℕ → ℕ
 refusal faults s d = routeRefusal 10 8 (faultMap faults) (place s) (place d) (replicate 100 0)
 
+unfoldable pub verdict : List (ℕ × ℕ) → ℕ × ℕ → ℕ × ℕ → String → Verdict
+verdict faults s d text = judgement 10 8 (faultMap faults) (place s) (place d) (bytes text)
+
 unfoldable pub holds : Case → Bool
 holds (makes faults expect) = sameList (edges (blocks (marked (mesh 10 8 (faultMap faults))))) expect
 holds (routes faults s d expect) =
     eqb (refusal faults s d) 0 && sameList (letters (hopsOf (marked (mesh 10 8 (faultMap faults))) (place s) (place d))) (bytes expect)
 holds (refuses faults s d expect) = eqb (refusal faults s d) expect
+holds (judges faults s d text k i) = eqb (verdictCode (verdict faults s d text)) k && eqb (verdictIndex (verdict faults s d text)) i
 
 unfoldable pub allHold : List Case → Bool
 allHold [] = true
@@ -93,3 +102,29 @@ unfolding starred allHold holds A B C refusal bytes edges onMesh rowAfter column
     shutIn distance detours bound badSize badLength some badByte allowed misplacedAt misplaced mapTests offMesh inBlock onARing
     unserved placeTests tripTests requestTests hopsOf sendTests routeRefusal
 starred-hold = tt
+
+-- Each of the four turns in a column of either kind; one that enters a block besides; one that leaves the mesh besides.
+unfoldable pub turns : List Case
+turns =
+    judges A (1, 5) (2, 6) "EN" 14 1 ∷
+    judges A (1, 6) (2, 7) "EN" 0 2 ∷
+    judges A (1, 7) (2, 6) "NW" 14 1 ∷
+    judges A (1, 6) (2, 5) "NW" 0 2 ∷
+    judges A (1, 5) (0, 6) "ES" 17 1 ∷
+    judges A (1, 6) (0, 7) "ES" 0 2 ∷
+    judges A (1, 7) (0, 6) "SW" 17 1 ∷
+    judges A (1, 6) (0, 5) "SW" 0 2 ∷
+    judges A (2, 3) (2, 4) "EN" 14 1 ∷
+    judges A (5, 3) (5, 4) "ES" 17 1 ∷
+    judges B (3, 5) (3, 6) "NW" 14 1 ∷
+    judges B (5, 5) (5, 6) "SW" 17 1 ∷
+    judges A (7, 3) (7, 4) "EN" 12 1 ∷
+    judges A (0, 3) (0, 4) "ES" 12 1 ∷
+    []
+
+pub turns-hold : T (allHold turns)
+unfolding turns allHold holds A B verdict bytes onMesh rowAfter columnAfter opposite same named turnsWest first isBad bad ahead upright ruleA
+    ruleB unsafe become advance round sameList settle blocked moved stays breaks turnBreaks hopBreaks reverses turnsBack arrived
+    badSize badLength some badByte allowed misplacedAt misplaced mapTests offMesh inBlock placeTests hopTests letterMistake follow unless
+    judge judgeFrom judgement atDestination
+turns-hold = tt

@@ -12,23 +12,25 @@ use Rattle.mesh.specs.Headings.{Heading, named}
 use Rattle.mesh.specs.Tests.{Test, _gives_, first}
 use Rattle.mesh.specs.Numbers.{number, mistakeNumber}
 use Rattle.mesh.specs.Rounds.{marked}
-use Rattle.mesh.specs.Turns.{turnsBack, turnsWrong}
+use Rattle.mesh.specs.Turns.{hopBreaks, isRule1, isRule2, turnsBack}
 use Rattle.mesh.specs.Rules.{Trip, tripOn, blocked}
 use Rattle.mesh.specs.Hops.{At, fresh, moved, stays}
 use Rattle.mesh.specs.Walk.{arrived}
 use Rattle.mesh.specs.Maps.{mapTests}
 use Rattle.mesh.specs.Requests.{placeTests}
 
--- 12 leaves the mesh; 13 reverses; 14 forbidden turn; 15 enters a block
+-- 12 leaves the mesh; 13 reverses; 14 breaks rule 1, 17 breaks rule 2; 15 enters a block
 unfoldable pub hopTests : Trip → At → Heading → List Test
 hopTests t p h =
+    let broken = hopBreaks (t .west) (p .column) (p .last) h in
     not (stays (t .columns) (t .rows) h (p .row) (p .column)) gives 12 ∷
     turnsBack (p .last) h gives 13 ∷
-    turnsWrong (t .west) (p .column) (p .last) h gives 14 ∷
+    isRule1 broken gives 14 ∷
+    isRule2 broken gives 17 ∷
     blocked t h 1 (p .row) (p .column) gives 15 ∷
     []
 
--- what is wrong with a letter: 11 not one of E, N, S, W; 12 to 15; 0 nothing
+-- what is wrong with a letter: 11 not one of E, N, S, W; 12 to 15 and 17; 0 nothing
 unfoldable pub letterMistake : Trip → At → Letter → ℕ
 letterMistake t p Other = 11
 letterMistake t p (Hop h) = first (hopTests t p h)

@@ -7,7 +7,7 @@ use Rattle.mesh.specs.declared.Refusal.the-variants.{Columns, Rows, MapL
 use Rattle.mesh.specs.declared.Checked.{Checked}
 use Rattle.mesh.specs.declared.Checked.the-variants.{Clear, Refused}
 use Rattle.mesh.specs.declared.Mistake.{Mistake}
-use Rattle.mesh.specs.declared.Mistake.the-variants.{NoLetter, LeavesMesh, Reverses, ForbiddenTurn, EntersBlock, NotArrived}
+use Rattle.mesh.specs.declared.Mistake.the-variants.{NoLetter, LeavesMesh, Reverses, BreaksRule1, BreaksRule2, EntersBlock, NotArrived}
 use Rattle.mesh.specs.declared.Tested.{Tested}
 use Rattle.mesh.specs.declared.Tested.the-variants.{Lawful, Wrong}
 
@@ -34,7 +34,8 @@ abbrev pub mistakeNumber : Mistake → ℕ
 mistakeNumber NoLetter = 11
 mistakeNumber LeavesMesh = 12
 mistakeNumber Reverses = 13
-mistakeNumber ForbiddenTurn = 14
+mistakeNumber BreaksRule1 = 14
+mistakeNumber BreaksRule2 = 17
 mistakeNumber EntersBlock = 15
 mistakeNumber NotArrived = 16
 

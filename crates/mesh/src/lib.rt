@@ -56,12 +56,20 @@ pub enum Letter {
     Other,
 }
 
-// What is wrong with a hand-in, in the order of their numbers (specs/Numbers.antt): 11 to 16.
+// Which rule of document 001 a turn breaks: rule 1 is about EN and NW, rule 2 about ES and SW.
+pub enum Broken {
+    Neither,
+    Rule1,
+    Rule2,
+}
+
+// What is wrong with a hand-in, in the order in which it is tested. Their numbers (specs/Numbers.antt) are 11 to 17.
 pub enum Mistake {
     NoLetter,
     LeavesMesh,
     Reverses,
-    ForbiddenTurn,
+    BreaksRule1,
+    BreaksRule2,
     EntersBlock,
     NotArrived,
 }

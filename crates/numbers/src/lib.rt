@@ -50,7 +50,8 @@ fn mistake_number(mistake: Mistake) -> u32
         Mistake::NoLetter => return 11,
         Mistake::LeavesMesh => return 12,
         Mistake::Reverses => return 13,
-        Mistake::ForbiddenTurn => return 14,
+        Mistake::BreaksRule1 => return 14,
+        Mistake::BreaksRule2 => return 17,
         Mistake::EntersBlock => return 15,
         Mistake::NotArrived => return 16,
     }

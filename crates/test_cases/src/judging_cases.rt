@@ -29,10 +29,38 @@ fn try_letters(p: u32, q: u32, source: u32, destination: u32, letters: &[u8]) {
 
 // A bench case and the misreadings: on map C north round both blocks, straight north from an odd column, and WN and WS, which are free in
 // every column.
-pub fn try_hand_ins() {
+fn try_routes() {
     try_letters(33, 36, 30, 39, b"ENEEEESSEENEE");
     try_letters(33, 36, 30, 39, b"ENEEEESNNEEEESEE");
     try_letters(34, 45, 15, 65, b"NNNNN");
     try_letters(34, 45, 16, 25, b"WN");
     try_letters(34, 45, 16, 5, b"WS");
+}
+
+// The turns of rule 1, then those of rule 2, in a column where they are forbidden and in one where they are not.
+fn try_turns() {
+    try_letters(34, 45, 15, 26, b"EN");
+    try_letters(34, 45, 16, 27, b"EN");
+    try_letters(34, 45, 17, 26, b"NW");
+    try_letters(34, 45, 16, 25, b"NW");
+    try_letters(34, 45, 15, 6, b"ES");
+    try_letters(34, 45, 16, 7, b"ES");
+    try_letters(34, 45, 17, 6, b"SW");
+    try_letters(34, 45, 16, 5, b"SW");
+}
+
+// Forbidden turns that enter a block besides, and some that leave the mesh besides.
+fn try_turns_and_more() {
+    try_letters(34, 45, 23, 24, b"EN");
+    try_letters(34, 45, 53, 54, b"ES");
+    try_letters(44, 44, 35, 36, b"NW");
+    try_letters(44, 44, 55, 56, b"SW");
+    try_letters(34, 45, 73, 74, b"EN");
+    try_letters(34, 45, 3, 4, b"ES");
+}
+
+pub fn try_hand_ins() {
+    try_routes();
+    try_turns();
+    try_turns_and_more();
 }

@@ -5,11 +5,14 @@ use crate::draws::draw;
 use crate::draws::draw_faults;
 use crate::draws::draw_shape;
 use crate::draws::draw_trip;
+use crate::hand_ins::change_letter;
+use crate::hand_ins::draw_length;
+use crate::hand_ins::node;
+use crate::hand_ins::start;
+use crate::hand_ins::try_hand_in;
 use crate::tallies::count;
 use marking::mark_blocks;
-use mesh::Place;
 use numbers::marked_code;
-use numbers::place_of;
 use numbers::routed_code;
 use routing::route;
 use std::num::wrapping_add_u32;
@@ -44,10 +47,6 @@ fn marks(size: Size, map: &[u8], n: usize, marked: &[u8; 4096]) -> bool {
         return false;
     }
     holds(&out, marked, map.len())
-}
-
-fn node(row: u8, column: u8) -> Place {
-    place_of(row as u32, column as u32)
 }
 
 fn send(size: Size, map: &[u8], t: Trip, out: &mut [u8]) -> u32 {
@@ -85,7 +84,7 @@ fn draw_room(seed: u32) -> usize {
 }
 
 // Counts an answer of routing: thing 0 if it is served, else the refusal's number.
-fn count_answer(tallies: &mut [u64; 32], x: u32, held: bool) {
+fn count_answer(tallies: &mut [u64; 64], x: u32, held: bool) {
     if x < 65536 {
         count(tallies, 0, held);
         return;
@@ -95,7 +94,7 @@ fn count_answer(tallies: &mut [u64; 32], x: u32, held: bool) {
 
 // A request.
 fn try_send(
-    tallies: &mut [u64; 32],
+    tallies: &mut [u64; 64],
     size: Size,
     map: &[u8],
     list: &[u8; 4096],
@@ -109,12 +108,14 @@ fn try_send(
     count_answer(tallies, x, routes(size, map, t, room, x, &letters));
     if x < 65536 {
         count(tallies, 12, x <= bound(list, n, t));
+        change_letter(&mut letters, x as usize, seed);
+        try_hand_in(tallies, size, map, list, n, t, &letters, draw_length(seed, x as usize));
     }
 }
 
 // So many requests on a map.
 fn try_sends(
-    tallies: &mut [u64; 32],
+    tallies: &mut [u64; 64],
     size: Size,
     map: &[u8],
     list: &[u8; 4096],
@@ -129,16 +130,8 @@ fn try_sends(
     }
 }
 
-// The first n bytes, or all if there are fewer.
-fn start(xs: &[u8], n: usize) -> &[u8] {
-    if n <= xs.len() {
-        return &xs[0..n];
-    }
-    xs
-}
-
 // A map: its marks, and so many requests on it.
-fn try_map(tallies: &mut [u64; 32], shape: Shape, sends: u32, seed: u32) {
+fn try_map(tallies: &mut [u64; 64], shape: Shape, sends: u32, seed: u32) {
     let size = shape.size;
     let mut map = [0u8; 4096];
     let mut list = [0u8; 4096];
@@ -152,7 +145,7 @@ fn try_map(tallies: &mut [u64; 32], shape: Shape, sends: u32, seed: u32) {
 }
 
 // So many maps, with so many requests on each. A map has 32 seeds: its own, one for its other stretches, and one for each request.
-pub fn try_maps(tallies: &mut [u64; 32], shape: Shape, first: u32, maps: u32, sends: u32) {
+pub fn try_maps(tallies: &mut [u64; 64], shape: Shape, first: u32, maps: u32, sends: u32) {
     let mut seed = first;
     let mut i: u32 = 0;
     while i < maps {

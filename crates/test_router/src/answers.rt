@@ -17,14 +17,14 @@ pub struct Size {
 // A refusal is answered as this and its number.
 const REFUSED: u32 = 65536;
 
-fn is_off(size: Size, row: u8, column: u8) -> bool {
+pub fn is_off(size: Size, row: u8, column: u8) -> bool {
     if row < size.rows {
         return size.columns <= column;
     }
     true
 }
 
-fn is_over(t: Trip) -> bool {
+pub fn is_over(t: Trip) -> bool {
     if t.row == t.to_row {
         return t.column == t.to_column;
     }

@@ -4,3 +4,4 @@
 pub mod answers;
 pub mod areas;
 pub mod trips;
+pub mod verdicts;

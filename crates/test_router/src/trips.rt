@@ -122,20 +122,37 @@ pub fn next_hop(list: &[u8; 4096], n: usize, t: Trip, last: u8) -> u8 {
     last
 }
 
-// Whether a hop reverses, or makes a turn that is forbidden: EN and ES in even columns, NW and SW in odd ones.
-pub fn is_forbidden(column: u8, last: u8, h: u8) -> bool {
-    if last == opposite(h) {
-        return true;
+pub fn is_reversal(last: u8, h: u8) -> bool {
+    last == opposite(h)
+}
+
+// The rule of document 001 about turns from E to this letter, and from it to W; 0 if there is none.
+fn rule_on(h: u8) -> u32 {
+    match h {
+        b'N' => 1,
+        b'S' => 2,
+        _ => 0,
     }
-    if last == b'E' {
-        if is_upright(h) {
-            return column % 2 == 0;
+}
+
+// The rule that a turn breaks, or 0: EN and ES are forbidden in even columns, NW and SW in odd ones.
+pub fn broken_rule(column: u8, last: u8, h: u8) -> u32 {
+    if column % 2 == 0 {
+        if last == b'E' {
+            return rule_on(h);
         }
+        return 0;
     }
     if h == b'W' {
-        if is_upright(last) {
-            return column % 2 == 1;
-        }
+        return rule_on(last);
     }
-    false
+    0
+}
+
+// Whether a hop reverses, or breaks a rule.
+pub fn is_forbidden(column: u8, last: u8, h: u8) -> bool {
+    if is_reversal(last, h) {
+        return true;
+    }
+    broken_rule(column, last, h) != 0
 }

@@ -1,9 +1,9 @@
 -- A whole hand-in, letter by letter. Assumes nothing.
 use mathlib.Core.Path.{_≡_, refl, sym, _∙_}
-use mathlib.Core.Logic.{_↔_, inl, inr}
+use mathlib.Core.Logic.{_↔_, _≢_, inl, inr}
 use mathlib.Core.Bool.{true, false}
-use mathlib.Core.List.{List, [], _∷_}
-use Prim.Native.Nat.{ℕ, zero, suc, _+_, _-_}
+use mathlib.Core.List.{List, [], _∷_, _++_}
+use Prim.Native.Nat.{ℕ, zero, suc, _+_, _-_, _≤_, _<_}
 use native.Mathlib.Nat.{add-zero, add-suc, suc-add}
 use native.Mathlib.Omega.{arith}
 use lib.ListN.{length, take}
@@ -11,12 +11,17 @@ use lib.Seq.{take-nil}
 use Rattle.mesh.specs.declared.Heading.{Heading}
 use Rattle.mesh.specs.declared.Letter.the-variants.{Hop}
 use Rattle.mesh.specs.declared.Place.{Place}
+use Rattle.mesh.specs.Mesh.{mesh}
 use Rattle.mesh.specs.Headings.{letter, letters, named}
+use Rattle.mesh.specs.Rounds.{marked}
 use Rattle.mesh.specs.Rules.{Trip}
 use Rattle.mesh.specs.Hops.{At, fresh, moved, lawful}
 use Rattle.mesh.specs.Walk.{arrived, lawfulRoute}
-use Rattle.mesh.specs.Judging.{letterMistake, follow, passed, failed, unless, judge, judgeFrom, judgement}
+use Rattle.mesh.specs.Maps.{mapTests}
+use Rattle.mesh.specs.Requests.{placeTests}
+use Rattle.mesh.specs.Judging.{letterMistake, follow, Verdict, passed, failed, unless, judge, judgeFrom, judgement}
 use Rattle.mesh.proofs.Lists.{letters-length}
+use Rattle.mesh.proofs.Tests.{numberedTo, first-most}
 use Rattle.mesh.proofs.Bools.{true-false, value, and-both, and-intro}
 use Rattle.theory_judging.specs.Claims.{LawfulHandIn, lawfulHops, after, NotLawful, no-letter, unlawful, WentWrong, at-letter, at-end, FailedAt, refusalOf, tripTo}
 use Rattle.theory_judging.proofs.Letters.{letter-named, no-mistake-lawful, good, mistaken, examine}
@@ -179,9 +184,27 @@ module _ (columns rows : ℕ) (map : List ℕ) (s d : Place) (xs : List ℕ) whe
   unfolding judgement unless
   refused-judged e = rw e
 
-  pub passed-clear : {n : ℕ} → judgement columns rows map s d xs ≡ passed n → refusalOf columns rows map s d ≡ 0
-  passed-clear {n} e = go (refusalOf columns rows map s d) refl
+  -- a refusal is told by its number, at most 7
+  pub refusal-most : refusalOf columns rows map s d ≤ 7
+  unfolding mapTests placeTests numberedTo
+  refusal-most = first-most 7 (mapTests columns rows map ++ placeTests (marked (mesh columns rows map)) s d) refl
+
+  -- so where a hand-in is passed, or fails with another number, none applies
+  pub clear-else : {v : Verdict} → judgement columns rows map s d xs ≡ v → ((k : ℕ) → k ≤ 7 → failed k 0 ≢ v) → refusalOf columns rows map s d ≡ 0
+  clear-else {v} e other = go (refusalOf columns rows map s d) refl
     where
       go : (k : ℕ) → refusalOf columns rows map s d ≡ k → refusalOf columns rows map s d ≡ 0
       go zero f = f
-      go (suc k) f = passed-failed (sym e ∙ refused-judged f)
+      go (suc k) f = absurd (other (suc k) (omega (arith, refusal-most)) (sym (refused-judged f) ∙ e))
+
+  pub passed-clear : {n : ℕ} → judgement columns rows map s d xs ≡ passed n → refusalOf columns rows map s d ≡ 0
+  passed-clear e = clear-else e (λ k m f. passed-failed (sym f))
+
+  pub failed-judged : {k j : ℕ} → 7 < k →
+      judgement columns rows map s d xs ≡ failed k j ↔ ((refusalOf columns rows map s d ≡ 0) × FailedAt (tripTo columns rows map d) (fresh s) 0 xs k j)
+  failed-judged {k} {j} l =
+      (λ e. let clear = clear-else e other in (clear, failed-told _ _ 0 xs (sym (clear-judged clear) ∙ e)),
+      λ (clear, f). clear-judged clear ∙ told-failed _ _ 0 xs f)
+    where
+      other : (n : ℕ) → n ≤ 7 → failed n 0 ≢ failed k j
+      other n m f = let (number, index) = failed-number f in omega arith

@@ -6,12 +6,14 @@ use Prim.Native.Nat.{ℕ, suc, pred}
 use native.Mathlib.Omega.{arith}
 use borrow.Author.Tests.{eqb-true}
 use lib.Dec.{eqb}
+use Rattle.mesh.specs.declared.Broken.{Broken}
+use Rattle.mesh.specs.declared.Broken.the-variants.{Neither, Rule1, Rule2}
 use Rattle.mesh.specs.declared.Heading.{Heading}
 use Rattle.mesh.specs.declared.Heading.the-variants.{East as E, North as N, South as S, West as W}
 use Rattle.mesh.specs.declared.Letter.the-variants.{Hop, Other}
 use Rattle.mesh.specs.Headings.{letter, named}
 use Rattle.mesh.specs.Tests.{first}
-use Rattle.mesh.specs.Turns.{turnsBack, turnsWrong, mayTurn}
+use Rattle.mesh.specs.Turns.{hopBreaks, isRule1, isRule2, forbidden, turnsBack, mayTurn}
 use Rattle.mesh.specs.Rules.{Trip, blocked}
 use Rattle.mesh.specs.Hops.{At, stays, lawful}
 use Rattle.mesh.specs.Judging.{hopTests, letterMistake}
@@ -58,22 +60,24 @@ named-hop x h e =
       | is-other o ↦ cc
     ]
 
--- the four tests of a hop in the order of their numbers, against the order of the definition of lawful
-mistake : Bool → Bool → Bool → Bool → ℕ
-mistake s v t b = cond (not s) 12 (cond v 13 (cond t 14 (cond b 15 0)))
+-- the tests of a hop in their order, against the order of the definition of lawful
+unfoldable pub mistake : Bool → Bool → Broken → Bool → ℕ
+mistake s v x b = cond (not s) 12 (cond v 13 (cond (isRule1 x) 14 (cond (isRule2 x) 17 (cond b 15 0))))
 
 neither : (k : ℕ) → suc k ≡ 0 ↔ false ≡ true
 neither k = (λ e. absurd (omega arith), λ e. true-false e refl)
 
-mistake-none : (s v t b : Bool) → mistake s v t b ≡ 0 ↔ s && (not b && (not v && not t)) ≡ true
+mistake-none : (s v : Bool) (x : Broken) (b : Bool) → mistake s v x b ≡ 0 ↔ s && (not b && (not v && not (forbidden x))) ≡ true
 unfolding mistake
-mistake-none false v t b = neither 11
-mistake-none true true t true = neither 12
-mistake-none true true t false = neither 12
-mistake-none true false true true = neither 13
-mistake-none true false true false = neither 13
-mistake-none true false false true = neither 14
-mistake-none true false false false = (λ e. refl, λ e. refl)
+mistake-none false v x b = neither 11
+mistake-none true true x true = neither 12
+mistake-none true true x false = neither 12
+mistake-none true false Rule1 true = neither 13
+mistake-none true false Rule1 false = neither 13
+mistake-none true false Rule2 true = neither 16
+mistake-none true false Rule2 false = neither 16
+mistake-none true false Neither true = neither 14
+mistake-none true false Neither false = (λ e. refl, λ e. refl)
 
 module _ (t : Trip) (p : At) where
   pub no-mistake-lawful : (h : Heading) → letterMistake t p (Hop h) ≡ 0 ↔ lawful t p h ≡ true
@@ -82,7 +86,7 @@ module _ (t : Trip) (p : At) where
       mistake-none
       (stays (t .columns) (t .rows) h (p .row) (p .column))
       (turnsBack (p .last) h)
-      (turnsWrong (t .west) (p .column) (p .last) h)
+      (hopBreaks (t .west) (p .column) (p .last) h)
       (blocked t h 1 (p .row) (p .column))
 
   -- a letter is a lawful hop, or it is not and has a mistake

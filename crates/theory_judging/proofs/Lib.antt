@@ -1,3 +1,4 @@
 pub mod Letters
 pub mod Judged
+pub mod Rules
 pub mod Theorems

@@ -1,22 +1,28 @@
 -- What is shown of judging a hand-in. Each theorem is proved in the file that its proof cites. Assumes nothing.
-use mathlib.Core.Path.{_≡_, _∙_}
-use mathlib.Core.Logic.{_↔_}
-use mathlib.Core.Bool.{true}
+use mathlib.Core.Path.{_≡_, sym, _∙_}
+use mathlib.Core.Logic.{_↔_, Iff·rfl, Iff·trans, Iff·and}
+use mathlib.Core.Bool.{Bool, true}
 use mathlib.Core.List.{List}
 use Prim.Native.Nat.{ℕ, suc, _+_}
 use native.Mathlib.Nat.{zero-add}
+use native.Mathlib.Omega.{arith}
 use lib.ListN.{length}
+use Rattle.mesh.specs.declared.Broken.{Broken}
+use Rattle.mesh.specs.declared.Broken.the-variants.{Neither, Rule1, Rule2}
 use Rattle.mesh.specs.declared.Heading.{Heading}
+use Rattle.mesh.specs.declared.Last.{Last}
 use Rattle.mesh.specs.declared.Letter.the-variants.{Hop}
 use Rattle.mesh.specs.declared.Place.{Place}
 use Rattle.mesh.specs.Headings.{letter, letters, named}
+use Rattle.mesh.specs.Turns.{hopBreaks, turnsBack}
 use Rattle.mesh.specs.Rules.{Trip}
 use Rattle.mesh.specs.Hops.{At, fresh, lawful}
 use Rattle.mesh.specs.Walk.{lawfulRoute}
 use Rattle.mesh.specs.Judging.{letterMistake, passed, failed, judge, judgement}
-use Rattle.theory_judging.specs.Claims.{LawfulHandIn, FailedAt, refusalOf, tripTo}
+use Rattle.theory_judging.specs.Claims.{LawfulHandIn, BreaksRule, FailedAt, BrokeRuleAt, refusalOf, tripTo}
 use Rattle.theory_judging.proofs.Letters.{letter-named, named-hop, no-mistake-lawful}
-use Rattle.theory_judging.proofs.Judged.{route-passed, passed-lawful, failed-told, told-failed, clear-judged, refused-judged, passed-clear}
+use Rattle.theory_judging.proofs.Judged.{route-passed, passed-lawful, failed-told, told-failed, clear-judged, refused-judged, passed-clear, failed-judged}
+use Rattle.theory_judging.proofs.Rules.{rule-is, broken-is-rule, reversal-keeps, failed-is-rule}
 
 -- a heading's letter names it
 pub named-letter : (h : Heading) → named (letter h) ≡ Hop h
@@ -25,6 +31,24 @@ named-letter = letter-named
 -- and no other byte does
 pub only-letter-named : (x : ℕ) (h : Heading) → named x ≡ Hop h → x ≡ letter h
 only-letter-named = named-hop
+
+-- Of the turn rules: any hop in column c after the last one, l.
+module _ (west : ℕ → Bool) (c : ℕ) (l : Last) (h : Heading) where
+  -- it breaks rule 1 exactly if it makes an EN or NW turn where that is forbidden
+  pub rule-1-is-broken : hopBreaks west c l h ≡ Rule1 ↔ BreaksRule west c Rule1 l h
+  rule-1-is-broken = broken-is-rule west c Rule1 (omega arith) l h
+
+  -- and rule 2 exactly if it makes an ES or SW turn where that is
+  pub rule-2-is-broken : hopBreaks west c l h ≡ Rule2 ↔ BreaksRule west c Rule2 l h
+  rule-2-is-broken = broken-is-rule west c Rule2 (omega arith) l h
+
+  -- it breaks one rule at most
+  pub one-rule-at-most : (r s : Broken) → BreaksRule west c r l h → BreaksRule west c s l h → r ≡ s
+  one-rule-at-most r s a b = sym (rule-is west c a) ∙ rule-is west c b
+
+  -- and none if it reverses
+  pub reversal-breaks-none : turnsBack l h ≡ true → hopBreaks west c l h ≡ Neither
+  reversal-breaks-none = reversal-keeps west c l h
 
 -- Of any mesh with its bad nodes, either parity, and any packet p on it.
 module _ (t : Trip) (p : At) where
@@ -40,6 +64,15 @@ module _ (t : Trip) (p : At) where
   -- the letter of index j is no lawful hop and k is its mistake, or there is none, the packet is not at the destination and k is 16
   pub failed-at : (i : ℕ) (xs : List ℕ) (k j : ℕ) → judge t p i xs ≡ failed k j ↔ FailedAt t p i xs k j
   failed-at i xs k j = (failed-told t p i xs, told-failed t p i xs)
+
+  -- with 14 exactly if the letters before j are lawful hops in turn, and that of index j stays on the mesh and breaks rule 1: it makes an EN
+  -- or NW turn where that is forbidden
+  pub failed-with-14 : (i : ℕ) (xs : List ℕ) (j : ℕ) → judge t p i xs ≡ failed 14 j ↔ BrokeRuleAt t p i xs Rule1 j
+  failed-with-14 i xs j = Iff·trans (failed-at i xs 14 j) (failed-is-rule t p i xs j Rule1 (omega arith))
+
+  -- with 17 exactly if it breaks rule 2 instead: an ES or SW turn
+  pub failed-with-17 : (i : ℕ) (xs : List ℕ) (j : ℕ) → judge t p i xs ≡ failed 17 j ↔ BrokeRuleAt t p i xs Rule2 j
+  failed-with-17 i xs j = Iff·trans (failed-at i xs 17 j) (failed-is-rule t p i xs j Rule2 (omega arith))
 
   -- every lawful route is passed, with its number of hops
   pub route-is-passed : (hs : List Heading) → lawfulRoute t p hs ≡ true → judge t p 0 (letters hs) ≡ passed (length hs)
@@ -75,3 +108,18 @@ module _ (columns rows : ℕ) (map : List ℕ) (s d : Place) where
         judgement columns rows map s d (letters hs) ≡ passed (length hs)
     judgement-of-route hs e =
         clear-judged columns rows map s d (letters hs) clear ∙ route-is-passed (tripTo columns rows map d) (fresh s) hs e
+
+  -- A hand-in fails with 14 at index j exactly if no refusal applies, the letters before j are lawful, and letter j makes an EN or NW turn where
+  -- that is forbidden, without leaving the mesh (which is told first, by 12);
+  pub judgement-with-14 : (xs : List ℕ) (j : ℕ) →
+      judgement columns rows map s d xs ≡ failed 14 j ↔ ((refusalOf columns rows map s d ≡ 0) × BrokeRuleAt (tripTo columns rows map d) (fresh s) 0 xs Rule1 j)
+  judgement-with-14 xs j =
+      Iff·trans (failed-judged columns rows map s d xs (omega arith))
+      (Iff·and Iff·rfl (failed-is-rule (tripTo columns rows map d) (fresh s) 0 xs j Rule1 (omega arith)))
+
+  -- with 17 exactly if an ES or SW turn.
+  pub judgement-with-17 : (xs : List ℕ) (j : ℕ) →
+      judgement columns rows map s d xs ≡ failed 17 j ↔ ((refusalOf columns rows map s d ≡ 0) × BrokeRuleAt (tripTo columns rows map d) (fresh s) 0 xs Rule2 j)
+  judgement-with-17 xs j =
+      Iff·trans (failed-judged columns rows map s d xs (omega arith))
+      (Iff·and Iff·rfl (failed-is-rule (tripTo columns rows map d) (fresh s) 0 xs j Rule2 (omega arith)))

@@ -8,7 +8,7 @@ use Rattle.mesh.specs.declared.Heading.the-variants.{East as E, North as N, Sou
 use Rattle.mesh.specs.declared.Last.{Last}
 use Rattle.mesh.specs.declared.Last.the-variants.{None as none, Made as made}
 use Rattle.mesh.specs.Headings.{opposite, same}
-use Rattle.mesh.specs.Turns.{forbidden, reverses, turnsBack, turnsWrong, mayTurn}
+use Rattle.mesh.specs.Turns.{breaks, turnBreaks, hopBreaks, reverses, turnsBack, mayTurn}
 use Rattle.mesh.specs.Rules.{Trip, own, again}
 use Rattle.mesh.proofs.Bools.{true-false}
 use Rattle.theory_walk.proofs.Bools.{bit-zero, bit-one}
@@ -38,11 +38,11 @@ module _ (t : Trip) (c : ℕ) where
   own-at s e = bit-zero (own t s c) e
 
   pub first-hop : (h : Heading) → Permits t c none h
-  unfolding mayTurn turnsBack turnsWrong
+  unfolding mayTurn turnsBack hopBreaks
   first-hop h = refl
 
   pub straight : (h : Heading) → Permits t c (made h) h
-  unfolding mayTurn turnsBack turnsWrong reverses forbidden same opposite
+  unfolding mayTurn turnsBack hopBreaks reverses turnBreaks breaks same opposite
   straight E = refl
   straight N = refl
   straight S = refl
@@ -54,7 +54,7 @@ module _ (t : Trip) (c : ℕ) where
   across-on went-west = straight W
 
   pub turn-in : {s a : Heading} → Level s → Upright a → notOwn t s c ≡ 0 → Permits t c (made s) a
-  unfolding mayTurn turnsBack turnsWrong reverses forbidden same opposite own
+  unfolding mayTurn turnsBack hopBreaks reverses turnBreaks breaks same opposite own
   turn-in to-east up e = rw (not-true (t .west c) (own-at E e))
   turn-in to-east down e = rw (not-true (t .west c) (own-at E e))
   turn-in to-west up e = refl
@@ -66,12 +66,12 @@ module _ (t : Trip) (c : ℕ) where
   across-in went-west v e = turn-in to-west v e
 
   pub turn-east : {a : Heading} → Upright a → Permits t c (made a) E
-  unfolding mayTurn turnsBack turnsWrong reverses forbidden same opposite
+  unfolding mayTurn turnsBack hopBreaks reverses turnBreaks breaks same opposite
   turn-east up = refl
   turn-east down = refl
 
   pub turn-out : {s a : Heading} → Upright a → Level s → notOwn t s c ≡ 0 → Permits t c (made a) s
-  unfolding mayTurn turnsBack turnsWrong reverses forbidden same opposite own
+  unfolding mayTurn turnsBack hopBreaks reverses turnBreaks breaks same opposite own
   turn-out v to-east e = turn-east v
   turn-out up to-west e = rw (own-at W e)
   turn-out down to-west e = rw (own-at W e)
@@ -83,7 +83,7 @@ module _ (t : Trip) (c : ℕ) where
   ready-upright down f = record { away = straight S; back = f }
 
   pub ready : {s : Heading} (l : Last) → Level s → notOwn t s c ≡ 0 → Permits t c l s → Ready t c l s
-  unfolding again mayTurn turnsBack turnsWrong reverses forbidden same opposite
+  unfolding again mayTurn turnsBack hopBreaks reverses turnBreaks breaks same opposite
   ready none v e f = record { away = refl; back = turn-out up v e }
   ready (made E) to-east e f = record { away = turn-in to-east up e; back = turn-east up }
   ready (made E) to-west e f = true-false f refl
@@ -93,5 +93,5 @@ module _ (t : Trip) (c : ℕ) where
 
   -- NW in a column where it is not
   pub no-turn-west : notOwn t W c ≡ 1 → mayTurn (t .west) c (made N) W ≡ false
-  unfolding mayTurn turnsBack turnsWrong reverses forbidden same opposite notOwn own
+  unfolding mayTurn turnsBack hopBreaks reverses turnBreaks breaks same opposite notOwn own
   no-turn-west e = rw (bit-one (t .west c) e)

@@ -1,1 +1,1 @@
-pub mod Forbidden
+pub mod Broken

@@ -1,32 +1,41 @@
 // The turn test.
 ghost use mathlib.Core.Path.{_≡_};
 ghost use Rattle.mesh.specs.Parity.{turnsWest};
-ghost use Rattle.mesh.specs.Turns.{forbidden, reverses, turnsBack, turnsWrong};
+ghost use Rattle.mesh.specs.Turns.{turnBreaks, hopBreaks, reverses, turnsBack};
+ghost use Rattle.turns.specs.About.{ruleAbout};
 use headings::is_same;
-use headings::is_vertical;
+use mesh::Broken;
 use mesh::Column;
 use mesh::Heading;
 use mesh::Last;
 use parity::turns_west;
 
-// Whether the turn is forbidden in this column: EN and ES are where it permits NW and SW, these are in the others.
-fn is_forbidden(before: Heading, after: Heading, c: Column) -> bool
-    ensures { λ x. ⌜ x ≡ forbidden turnsWest (c .0) before after ⌝ }
+// The rule about turns from E to this heading, and from it to W.
+fn rule_about(h: Heading) -> Broken
+    ensures { λ x. ⌜ x ≡ ruleAbout h ⌝ }
 {
-    let west = turns_west(c);
-    if is_same(after, Heading::West) {
-        if is_vertical(before) {
-            return !west;
+    match h {
+        Heading::East => return Broken::Neither,
+        Heading::North => return Broken::Rule1,
+        Heading::South => return Broken::Rule2,
+        Heading::West => return Broken::Neither,
+    }
+}
+
+// The rule that the turn breaks in this column: EN and ES are forbidden where it permits NW and SW, these are in the others.
+fn turn_breaks(before: Heading, after: Heading, c: Column) -> Broken
+    ensures { λ x. ⌜ x ≡ turnBreaks turnsWest (c .0) before after ⌝ }
+{
+    if turns_west(c) {
+        if is_same(before, Heading::East) {
+            return rule_about(after);
         }
-        return false;
+        return Broken::Neither;
     }
-    if is_same(after, Heading::East) {
-        return false;
+    if is_same(after, Heading::West) {
+        return rule_about(before);
     }
-    if is_same(before, Heading::East) {
-        return west;
-    }
-    false
+    Broken::Neither
 }
 
 // Whether the second hop goes back where the first came from.
@@ -51,12 +60,12 @@ pub fn turns_back(l: Last, h: Heading) -> bool
     }
 }
 
-// Whether the hop makes a forbidden turn in this column.
-pub fn turns_wrong(l: Last, h: Heading, c: Column) -> bool
-    ensures { λ x. ⌜ x ≡ turnsWrong turnsWest (c .0) l h ⌝ }
+// The rule that the hop breaks after the last one.
+pub fn hop_breaks(l: Last, h: Heading, c: Column) -> Broken
+    ensures { λ x. ⌜ x ≡ hopBreaks turnsWest (c .0) l h ⌝ }
 {
     match l {
-        Last::None => return false,
-        Last::Made(g) => return is_forbidden(g, h, c),
+        Last::None => return Broken::Neither,
+        Last::Made(g) => return turn_breaks(g, h, c),
     }
 }
