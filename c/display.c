@@ -1,4 +1,4 @@
-/* A bench display: marks a map, routes a packet, judges the route and moves the packet along it.
+/* A bench display: marks a map, routes a packet, judges the route and moves the packet along it; then hand-ins that break a turn rule.
  *   c/library && cc c/display.c target/staticlib/libpinduguil.a -o display && ./display */
 #include <stdio.h>
 
@@ -38,6 +38,14 @@ int main(void) {
             return 1;
         }
         printf("%c to (%u, %u)\n", (int)moved, (unsigned)packet[0], (unsigned)packet[1]);
+    }
+
+    /* Hand-ins with a forbidden turn: which rule it breaks. */
+    static const char *const hand_ins[] = {"EN", "NW", "ES", "SW"};
+    for (int i = 0; i < 4; i++) {
+        wrong = pinduguil_judge(COLUMNS, ROWS, map, sizeof map, 1, i % 2 == 0 ? 5 : 7, 6, 5, (const uint8_t *)hand_ins[i], 2, index, 1);
+        int rule = wrong == PINDUGUIL_BREAKS_RULE_1 ? 1 : wrong == PINDUGUIL_BREAKS_RULE_2 ? 2 : 0;
+        printf("%s: %u, rule %d, index %llu\n", hand_ins[i], (unsigned)wrong, rule, (unsigned long long)index[0]);
     }
 
     /* Refused: the destination is on a ring. */

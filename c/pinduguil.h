@@ -26,6 +26,16 @@
 /* No route has more hops: an output of this many bytes has room for every route. */
 #define PINDUGUIL_MOST_HOPS 4034
 
+/* What is wrong with a hand-in, in the order in which it is tested: letter by letter the first six, after the last letter the seventh.
+ * Rule 1 of document 001 is about EN and NW turns, rule 2 about ES and SW. */
+#define PINDUGUIL_NO_LETTER 11u
+#define PINDUGUIL_LEAVES_MESH 12u
+#define PINDUGUIL_REVERSES 13u
+#define PINDUGUIL_BREAKS_RULE_1 14u
+#define PINDUGUIL_BREAKS_RULE_2 17u
+#define PINDUGUIL_ENTERS_BLOCK 15u
+#define PINDUGUIL_NOT_ARRIVED 16u
+
 #ifdef __cplusplus
 extern "C" {
 #endif
@@ -42,9 +52,9 @@ uint32_t pinduguil_route(uint32_t columns, uint32_t rows, const uint8_t *map, si
                          uint8_t *out, size_t out_length);
 
 /* Judge a hand-in: letters that should lead from a source to (row, column). Answers 0 if it is passed, or what is wrong:
- * a refusal 1 to 7, or 11 not a letter, 12 leaves the mesh, 13 reverses, 14 forbidden turn, 15 enters a block, 16 does not end at the
- * destination. If index has room, index[0] is written whatever the answer: the hand-in's length (0 and 16), the index of the wrong letter
- * (11 to 15), or 0 (refusals 1 to 7). Numbers of index beyond the first are left alone. */
+ * a refusal 1 to 7, or 11 not a letter, 12 leaves the mesh, 13 reverses, 14 breaks rule 1, 17 breaks rule 2, 15 enters a block, 16 does not
+ * end at the destination. If index has room, index[0] is written whatever the answer: the hand-in's length (0 and 16), the index of the
+ * wrong letter (11 to 15 and 17), or 0 (refusals 1 to 7). Numbers of index beyond the first are left alone. */
 uint32_t pinduguil_judge(uint32_t columns, uint32_t rows, const uint8_t *map, size_t map_length,
                          uint32_t source_row, uint32_t source_column, uint32_t row, uint32_t column,
                          const uint8_t *letters, size_t letters_length, uint64_t *index, size_t index_length);

@@ -1,4 +1,4 @@
-//! Loads a map, marks it, routes a packet, judges the route and moves the packet along it; then what a bad request is answered.
+//! Loads a map, marks it, routes a packet, judges the route and moves the packet along it; then what a bad request and a bad hand-in are answered.
 //!   c/library && rustc -O rust/loader.rs -L target/staticlib -l static=pinduguil -o loader && ./loader
 mod wrapper;
 use wrapper::{Mesh, Moved, Packet, Place, MOST_HOPS};
@@ -32,4 +32,7 @@ fn main() {
     println!("{:?}", mesh.route(source, ring, &mut out));
     println!("{:?}", Mesh { columns: 65, ..mesh }.mark(&mut marks));
     println!("{:?}", mesh.judge(source, destination, b"NX"));
+    for letters in [b"EN", b"ES", b"NW"] {
+        println!("{}: {:?}", String::from_utf8_lossy(letters), mesh.judge(source, destination, letters));
+    }
 }

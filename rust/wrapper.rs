@@ -98,12 +98,34 @@ pub enum Moved {
     Refused(Refusal),
 }
 
+/// What is wrong with a hand-in, in the order in which it is tested, by the papers' numbers. Rule 1 of document 001 is about EN and NW turns,
+/// rule 2 about ES and SW.
+#[derive(Clone, Copy, Debug, PartialEq, Eq)]
+pub enum Mistake {
+    NoLetter = 11,
+    LeavesMesh = 12,
+    Reverses = 13,
+    BreaksRule1 = 14,
+    BreaksRule2 = 17,
+    EntersBlock = 15,
+    NotArrived = 16,
+}
+
+impl Mistake {
+    const ALL: [Mistake; 7] = [
+        Mistake::NoLetter, Mistake::LeavesMesh, Mistake::Reverses, Mistake::BreaksRule1, Mistake::BreaksRule2, Mistake::EntersBlock,
+        Mistake::NotArrived,
+    ];
+}
+
 #[derive(Clone, Copy, Debug, PartialEq, Eq)]
 pub enum Judged {
     /// with the length
     Passed(u64),
-    /// the number of what is wrong, 1 to 7 or 11 to 16, and the index
-    Failed(u32, u64),
+    /// what is wrong, and the index of that letter, or the length
+    Failed(Mistake, u64),
+    /// 1 to 7
+    Refused(Refusal),
 }
 
 /// A mesh and its fault map: columns × rows bytes, row 0 first, 0 sound, 1 faulty.
@@ -130,7 +152,10 @@ impl Mesh<'_> {
         let mut index = [0];
         match raw::judge(self.columns, self.rows, self.map, source.pair(), destination.pair(), letters, &mut index) {
             0 => Judged::Passed(index[0]),
-            number => Judged::Failed(number, index[0]),
+            number => match Mistake::ALL.iter().copied().find(|m| *m as u32 == number) {
+                Some(mistake) => Judged::Failed(mistake, index[0]),
+                None => Judged::Refused(Refusal(number)),
+            },
         }
     }
 

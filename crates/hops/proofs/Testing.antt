@@ -17,7 +17,7 @@ use Rattle.mesh.specs.Mesh.{Mesh}
 use Rattle.mesh.specs.Headings.{rowAfter, columnAfter}
 use Rattle.mesh.specs.Parity.{turnsWest}
 use Rattle.mesh.specs.Tests.{first}
-use Rattle.mesh.specs.Numbers.{mistakeNumber, testedNumber}
+use Rattle.mesh.specs.Numbers.{mistakeNumber}
 use Rattle.mesh.specs.Nodes.{bad, ahead}
 use Rattle.mesh.specs.Turns.{hopBreaks, turnsBack}
 use Rattle.mesh.specs.Rules.{blocked}

@@ -19,11 +19,13 @@ unfoldable pub hopBreaks : (ℕ → Bool) → ℕ → Last → Heading → Broke
 hopBreaks west c none h = Neither
 hopBreaks west c (made g) h = turnBreaks west c g h
 
+-- rule 1 is broken
 abbrev pub isRule1 : Broken → Bool
 isRule1 Neither = false
 isRule1 Rule1 = true
 isRule1 Rule2 = false
 
+-- rule 2 is broken
 abbrev pub isRule2 : Broken → Bool
 isRule2 Neither = false
 isRule2 Rule1 = false

@@ -37,26 +37,32 @@ fn try_routes() {
     try_letters(34, 45, 16, 5, b"WS");
 }
 
+// A hand-in of two letters.
+fn try_turn(p: u32, q: u32, source: u32, destination: u32, before: u8, after: u8) {
+    let letters = [before, after];
+    try_letters(p, q, source, destination, &letters);
+}
+
 // The turns of rule 1, then those of rule 2, in a column where they are forbidden and in one where they are not.
 fn try_turns() {
-    try_letters(34, 45, 15, 26, b"EN");
-    try_letters(34, 45, 16, 27, b"EN");
-    try_letters(34, 45, 17, 26, b"NW");
-    try_letters(34, 45, 16, 25, b"NW");
-    try_letters(34, 45, 15, 6, b"ES");
-    try_letters(34, 45, 16, 7, b"ES");
-    try_letters(34, 45, 17, 6, b"SW");
-    try_letters(34, 45, 16, 5, b"SW");
+    try_turn(34, 45, 15, 26, b'E', b'N');
+    try_turn(34, 45, 16, 27, b'E', b'N');
+    try_turn(34, 45, 17, 26, b'N', b'W');
+    try_turn(34, 45, 16, 25, b'N', b'W');
+    try_turn(34, 45, 15, 6, b'E', b'S');
+    try_turn(34, 45, 16, 7, b'E', b'S');
+    try_turn(34, 45, 17, 6, b'S', b'W');
+    try_turn(34, 45, 16, 5, b'S', b'W');
 }
 
 // Forbidden turns that enter a block besides, and some that leave the mesh besides.
 fn try_turns_and_more() {
-    try_letters(34, 45, 23, 24, b"EN");
-    try_letters(34, 45, 53, 54, b"ES");
-    try_letters(44, 44, 35, 36, b"NW");
-    try_letters(44, 44, 55, 56, b"SW");
-    try_letters(34, 45, 73, 74, b"EN");
-    try_letters(34, 45, 3, 4, b"ES");
+    try_turn(34, 45, 23, 24, b'E', b'N');
+    try_turn(34, 45, 53, 54, b'E', b'S');
+    try_turn(44, 44, 35, 36, b'N', b'W');
+    try_turn(44, 44, 55, 56, b'S', b'W');
+    try_turn(34, 45, 73, 74, b'E', b'N');
+    try_turn(34, 45, 3, 4, b'E', b'S');
 }
 
 pub fn try_hand_ins() {

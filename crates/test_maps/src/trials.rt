@@ -109,7 +109,16 @@ fn try_send(
     if x < 65536 {
         count(tallies, 12, x <= bound(list, n, t));
         change_letter(&mut letters, x as usize, seed);
-        try_hand_in(tallies, size, map, list, n, t, &letters, draw_length(seed, x as usize));
+        try_hand_in(
+            tallies,
+            size,
+            map,
+            list,
+            n,
+            t,
+            &letters,
+            draw_length(seed, x as usize),
+        );
     }
 }
 

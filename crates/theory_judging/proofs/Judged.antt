@@ -202,9 +202,10 @@ module _ (columns rows : ℕ) (map : List ℕ) (s d : Place) (xs : List ℕ) whe
 
   pub failed-judged : {k j : ℕ} → 7 < k →
       judgement columns rows map s d xs ≡ failed k j ↔ ((refusalOf columns rows map s d ≡ 0) × FailedAt (tripTo columns rows map d) (fresh s) 0 xs k j)
-  failed-judged {k} {j} l =
-      (λ e. let clear = clear-else e other in (clear, failed-told _ _ 0 xs (sym (clear-judged clear) ∙ e)),
-      λ (clear, f). clear-judged clear ∙ told-failed _ _ 0 xs f)
+  failed-judged {k} {j} l = (
+    λ e. let clear = clear-else e other in (clear, failed-told _ _ 0 xs (sym (clear-judged clear) ∙ e)),
+    λ (clear, f). clear-judged clear ∙ told-failed _ _ 0 xs f,
+  )
     where
       other : (n : ℕ) → n ≤ 7 → failed n 0 ≢ failed k j
       other n m f = let (number, index) = failed-number f in omega arith

@@ -21,7 +21,7 @@ use Rattle.mesh.specs.Hops.{At, stays, lawful}
 use Rattle.mesh.specs.Judging.{hopTests, letterMistake}
 use Rattle.mesh.proofs.Bools.{true-false, value}
 use Rattle.theory_judging.specs.Claims.{unlawful, WentWrong, at-letter, at-end, BreaksRule, EN, NW, ES, SW, LetterBreaks, LawfulUpTo, FailedAt, BrokeRuleAt}
-use Rattle.theory_judging.proofs.Letters.{letter-named, Named, is-hop, is-other, name, mistake, no-mistake-lawful}
+use Rattle.theory_judging.proofs.Letters.{letter-named, is-hop, is-other, name, mistake, no-mistake-lawful}
 
 -- the number by which a broken rule is told
 abbrev pub told : Broken → ℕ

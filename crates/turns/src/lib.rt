@@ -26,14 +26,16 @@ fn rule_about(h: Heading) -> Broken
 fn turn_breaks(before: Heading, after: Heading, c: Column) -> Broken
     ensures { λ x. ⌜ x ≡ turnBreaks turnsWest (c .0) before after ⌝ }
 {
-    if turns_west(c) {
-        if is_same(before, Heading::East) {
+    if is_same(after, Heading::West) {
+        if turns_west(c) {
+            return Broken::Neither;
+        }
+        return rule_about(before);
+    }
+    if is_same(before, Heading::East) {
+        if turns_west(c) {
             return rule_about(after);
         }
-        return Broken::Neither;
-    }
-    if is_same(after, Heading::West) {
-        return rule_about(before);
     }
     Broken::Neither
 }
