@@ -49,7 +49,7 @@ pub data WentWrong (t : Trip) (p : At) (xs : List ℕ) (n k : ℕ) : Type 0 wher
   at-letter : n < length xs → NotLawful t p (getD xs n 0) → k ≡ letterMistake t p (named (getD xs n 0)) → WentWrong t p xs n k
   at-end : n ≡ length xs → arrived t p ≡ false → k ≡ 16 → WentWrong t p xs n k
 
--- the turns of rule r of document 001, in the columns where they are forbidden
+-- the turns of rules 1 and 2 of document 001, in the columns where they are forbidden; `west` are those that permit NW and SW
 pub data BreaksRule (west : ℕ → Bool) (c : ℕ) : Broken → Last → Heading → Type 0 where
   EN : west c ≡ true → BreaksRule west c Rule1 (made E) N
   NW : west c ≡ false → BreaksRule west c Rule1 (made N) W
