@@ -1,4 +1,4 @@
-//! Loads a map, marks it, routes a packet, judges the route and moves the packet along it; then what a bad request and a bad hand-in are answered.
+//! Loads a map, marks it, routes a packet, judges the route and moves the packet along it; then what bad requests and hand-ins are answered.
 //!   c/library && rustc -O rust/loader.rs -L target/staticlib -l static=pinduguil -o loader && ./loader
 mod wrapper;
 use wrapper::{Mesh, Moved, Packet, Place, MOST_HOPS};
@@ -31,6 +31,7 @@ fn main() {
     let ring = Place { row: 4, column: 6 };
     println!("{:?}", mesh.route(source, ring, &mut out));
     println!("{:?}", Mesh { columns: 65, ..mesh }.mark(&mut marks));
+    println!("{:?}", mesh.judge(Place { row: 3, column: 5 }, destination, b"N"));
     println!("{:?}", mesh.judge(source, destination, b"NX"));
     for letters in [b"EN", b"ES", b"NW"] {
         println!("{}: {:?}", String::from_utf8_lossy(letters), mesh.judge(source, destination, letters));

@@ -1,20 +1,16 @@
 // Hand-ins: a route with a letter changed, perhaps cut short.
 use crate::draws::draw;
+use crate::handed::node;
+use crate::handed::start;
 use crate::tallies::count;
 use judging::judge;
-use mesh::Place;
 use numbers::judged_code;
 use numbers::judged_index;
-use numbers::place_of;
 use std::num::wrapping_add_u32;
 use test_router::answers::Size;
 use test_router::trips::Trip;
 use test_router::verdicts::Verdict;
 use test_router::verdicts::judge_letters;
-
-pub fn node(row: u8, column: u8) -> Place {
-    place_of(row as u32, column as u32)
-}
 
 // Whether judging says this.
 fn judges(size: Size, map: &[u8], t: Trip, letters: &[u8], verdict: Verdict) -> bool {
@@ -60,14 +56,6 @@ pub fn change_letter(letters: &mut [u8; 4096], hops: usize, seed: u32) {
     if i < 4096 {
         letters[i] = draw_letter(seed);
     }
-}
-
-// The first n bytes, or all if there are fewer.
-pub fn start(xs: &[u8], n: usize) -> &[u8] {
-    if n <= xs.len() {
-        return &xs[0..n];
-    }
-    xs
 }
 
 // A hand-in: the first n of these letters. What judging says of it is thing 14, or the number of what is wrong more.

@@ -1,6 +1,7 @@
 // Random maps, requests and hand-ins: marking, routing and judging set against the test router. Prints how many of what was tried came out as it should.
 mod draws;
 mod hand_ins;
+mod handed;
 mod tallies;
 mod trials;
 

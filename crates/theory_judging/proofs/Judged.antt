@@ -185,12 +185,12 @@ module _ (columns rows : ℕ) (map : List ℕ) (s d : Place) (xs : List ℕ) whe
   refused-judged e = rw e
 
   -- a refusal is told by its number, at most 7
-  pub refusal-most : refusalOf columns rows map s d ≤ 7
+  refusal-most : refusalOf columns rows map s d ≤ 7
   unfolding mapTests placeTests numberedTo
   refusal-most = first-most 7 (mapTests columns rows map ++ placeTests (marked (mesh columns rows map)) s d) refl
 
   -- so where a hand-in is passed, or fails with another number, none applies
-  pub clear-else : {v : Verdict} → judgement columns rows map s d xs ≡ v → ((k : ℕ) → k ≤ 7 → failed k 0 ≢ v) → refusalOf columns rows map s d ≡ 0
+  clear-else : {v : Verdict} → judgement columns rows map s d xs ≡ v → ((k : ℕ) → k ≤ 7 → failed k 0 ≢ v) → refusalOf columns rows map s d ≡ 0
   clear-else {v} e other = go (refusalOf columns rows map s d) refl
     where
       go : (k : ℕ) → refusalOf columns rows map s d ≡ k → refusalOf columns rows map s d ≡ 0

@@ -1,10 +1,11 @@
 -- Which rule a hop breaks, and that judging tells it. Assumes nothing.
 use mathlib.Core.Path.{_≡_, refl, sym, _∙_}
 use mathlib.Core.Logic.{_↔_, _≢_, inl, inr}
-use mathlib.Core.Bool.{Bool, true, false}
+use mathlib.Core.Bool.{Bool, true, false, cond}
 use mathlib.Core.List.{List}
 use Prim.Native.Nat.{ℕ, _<_}
 use native.Mathlib.Omega.{arith}
+use lib.Dec.{eqb}
 use lib.ListN.{length, getD}
 use Rattle.mesh.specs.declared.Broken.{Broken}
 use Rattle.mesh.specs.declared.Broken.the-variants.{Neither, Rule1, Rule2}
@@ -13,8 +14,10 @@ use Rattle.mesh.specs.declared.Heading.the-variants.{East as E, North as N, Sou
 use Rattle.mesh.specs.declared.Last.{Last}
 use Rattle.mesh.specs.declared.Last.the-variants.{None as none, Made as made}
 use Rattle.mesh.specs.declared.Letter.the-variants.{Hop}
+use Rattle.mesh.specs.declared.Mistake.the-variants.{BreaksRule1, BreaksRule2}
 use Rattle.mesh.specs.Headings.{opposite, same, named}
 use Rattle.mesh.specs.Tests.{first}
+use Rattle.mesh.specs.Numbers.{mistakeNumber}
 use Rattle.mesh.specs.Turns.{breaks, turnBreaks, hopBreaks, reverses, turnsBack}
 use Rattle.mesh.specs.Rules.{Trip, blocked}
 use Rattle.mesh.specs.Hops.{At, stays, lawful}
@@ -23,17 +26,25 @@ use Rattle.mesh.proofs.Bools.{true-false, value}
 use Rattle.theory_judging.specs.Claims.{unlawful, WentWrong, at-letter, at-end, BreaksRule, EN, NW, ES, SW, LetterBreaks, LawfulUpTo, FailedAt, BrokeRuleAt}
 use Rattle.theory_judging.proofs.Letters.{letter-named, is-hop, is-other, name, mistake, no-mistake-lawful}
 
--- the number by which a broken rule is told
+-- the number by which a broken rule is told, and the rule that a number tells of
 abbrev pub told : Broken → ℕ
 told Neither = 0
-told Rule1 = 14
-told Rule2 = 17
+told Rule1 = mistakeNumber BreaksRule1
+told Rule2 = mistakeNumber BreaksRule2
 
--- 11 and 16 tell of none
-no-rule : (r : Broken) → (told r ≢ 11) × (told r ≢ 16)
-no-rule Neither = (λ e. absurd (omega arith), λ e. absurd (omega arith))
-no-rule Rule1 = (λ e. absurd (omega arith), λ e. absurd (omega arith))
-no-rule Rule2 = (λ e. absurd (omega arith), λ e. absurd (omega arith))
+abbrev ruleOf : ℕ → Broken
+ruleOf k = cond (eqb k (told Rule1)) Rule1 (cond (eqb k (told Rule2)) Rule2 Neither)
+
+told-rule : (r : Broken) → ruleOf (told r) ≡ r
+told-rule Neither = refl
+told-rule Rule1 = refl
+told-rule Rule2 = refl
+
+tells-some : (r : Broken) {k : ℕ} → 0 < told r → told r ≡ k → ruleOf k ≢ Neither
+tells-some r some e z =
+    let none : ruleOf (told r) ≡ Neither = rw e z in
+    let zero : told r ≡ 0 = rw (sym (told-rule r) ∙ none) in
+    absurd (omega (arith, some))
 
 module _ (west : ℕ → Bool) (c : ℕ) where
   pub rule-is : {r : Broken} {l : Last} {h : Heading} → BreaksRule west c r l h → hopBreaks west c l h ≡ r
@@ -87,21 +98,14 @@ module _ (west : ℕ → Bool) (c : ℕ) where
   reversal-keeps l h e = elim (turned l h) [ keeps k ↦ k | broke r b ↦ true-false e (rule-ahead b) ]
 
 -- the tests tell of a rule exactly if the hop stays on the mesh and breaks it
-tells : (r : Broken) (s v : Bool) (x : Broken) (b : Bool) → 0 < told r → mistake s v x b ≡ told r → (s ≡ true) × (x ≡ r)
+tells : (s v : Bool) (x : Broken) (b : Bool) → ruleOf (mistake s v x b) ≢ Neither → (s ≡ true) × (x ≡ ruleOf (mistake s v x b))
 unfolding mistake
-tells Neither s v x b some e = absurd (omega arith)
-tells Rule1 false v x b some e = absurd (omega arith)
-tells Rule1 true true x b some e = absurd (omega arith)
-tells Rule1 true false Neither false some e = absurd (omega arith)
-tells Rule1 true false Neither true some e = absurd (omega arith)
-tells Rule1 true false Rule1 b some e = (refl, refl)
-tells Rule1 true false Rule2 b some e = absurd (omega arith)
-tells Rule2 false v x b some e = absurd (omega arith)
-tells Rule2 true true x b some e = absurd (omega arith)
-tells Rule2 true false Neither false some e = absurd (omega arith)
-tells Rule2 true false Neither true some e = absurd (omega arith)
-tells Rule2 true false Rule1 b some e = absurd (omega arith)
-tells Rule2 true false Rule2 b some e = (refl, refl)
+tells false v x b some = absurd (some refl)
+tells true true x b some = absurd (some refl)
+tells true false Neither true some = absurd (some refl)
+tells true false Neither false some = absurd (some refl)
+tells true false Rule1 b some = (refl, refl)
+tells true false Rule2 b some = (refl, refl)
 
 told-by : (r : Broken) (b : Bool) → 0 < told r → mistake true false r b ≡ told r
 unfolding mistake
@@ -110,12 +114,15 @@ told-by Rule1 b some = refl
 told-by Rule2 b some = refl
 
 module _ (t : Trip) (q : At) (xs : List ℕ) (n : ℕ) (r : Broken) (some : 0 < told r) where
-  letter-tells : (h : Heading) → letterMistake t q (Hop h) ≡ told r →
-      (stays (t .columns) (t .rows) h (q .row) (q .column) ≡ true) × (hopBreaks (t .west) (q .column) (q .last) h ≡ r)
+  tests-tell : (h : Heading) → ruleOf (letterMistake t q (Hop h)) ≢ Neither →
+      (stays (t .columns) (t .rows) h (q .row) (q .column) ≡ true) × (hopBreaks (t .west) (q .column) (q .last) h ≡ ruleOf (letterMistake t q (Hop h)))
   unfolding letterMistake hopTests first mistake
-  letter-tells h e =
-      tells r (stays (t .columns) (t .rows) h (q .row) (q .column)) (turnsBack (q .last) h) (hopBreaks (t .west) (q .column) (q .last) h)
-      (blocked t h 1 (q .row) (q .column)) some e
+  tests-tell h =
+      tells
+      (stays (t .columns) (t .rows) h (q .row) (q .column))
+      (turnsBack (q .last) h)
+      (hopBreaks (t .west) (q .column) (q .last) h)
+      (blocked t h 1 (q .row) (q .column))
 
   letter-told : (h : Heading) → stays (t .columns) (t .rows) h (q .row) (q .column) ≡ true →
       BreaksRule (t .west) (q .column) r (q .last) h → letterMistake t q (Hop h) ≡ told r
@@ -125,15 +132,16 @@ module _ (t : Trip) (q : At) (xs : List ℕ) (n : ℕ) (r : Broken) (some : 0 < 
 
   at-hop : (h : Heading) → n < length xs → named (getD xs n 0) ≡ Hop h → told r ≡ letterMistake t q (named (getD xs n 0)) → LetterBreaks t q xs n r
   at-hop h l s e =
-      let (on, b) = letter-tells h (rw (← s) (sym e)) in
-      record { there = l; hop = h; spelled = s; on-mesh = on; broken = rule-turn _ _ some b }
+      let m : told r ≡ letterMistake t q (Hop h) = rw (← s) e in
+      let (on, b) = tests-tell h (tells-some r some m) in
+      record { there = l; hop = h; spelled = s; on-mesh = on; broken = rule-turn _ _ some (b ∙ rw (← m) (told-rule r)) }
 
   wrong-rule : WentWrong t q xs n (told r) → LetterBreaks t q xs n r
   unfolding letterMistake
-  wrong-rule (at-end l a e) = absurd (no-rule r .1 e)
+  wrong-rule (at-end l a e) = absurd (tells-some r some e refl)
   wrong-rule (at-letter l u e) =
       elim (name (getD xs n 0)) [
-        | is-other o ↦ absurd (no-rule r .0 (e ∙ rw o))
+        | is-other o ↦ let other : told r ≡ 11 = e ∙ rw o in absurd (tells-some r some other refl)
         | is-hop h s ↦ at-hop h l (rw s (letter-named h)) e
       ]
 
