@@ -1,5 +1,4 @@
 -- The premise of demand 3 can be met: it is by every starred case of document 01 that is a route. Assumes nothing.
-use mathlib.Core.Path.{_≡_, refl}
 use mathlib.Core.Bool.{Bool, true, false, _&&_}
 use mathlib.Core.List.{List, [], _∷_}
 use Prim.Native.Nat.{ℕ, zero, suc, _<_}
@@ -7,11 +6,9 @@ use Prim.Native.String.{String}
 use native.Mathlib.Omega.{arith}
 use lib.Dec.{T, eqb, eqb→eq}
 use lib.ListN.{length, getD, replicate}
-use Rattle.mesh.specs.declared.Place.{Place}
-use Rattle.mesh.specs.Routing.{routeRefusal}
 use Rattle.mesh.specs.Cases.{faultMap, Case, routes, place, refusal, holds, allHold, A, starred, starred-hold}
-use Rattle.theory_demands.specs.Demand3.{requestRefusal, Demand3}
-use Rattle.theory_demands.proofs.Routes.{refused-before}
+use Rattle.theory_demands.specs.Demand3.{Demand3}
+use Rattle.theory_demands.proofs.Routes.{served-clear}
 use Rattle.theory_demands.proofs.Theorems.{demand-3}
 
 both : (a b : Bool) → T (a && b) → T a × T b
@@ -24,18 +21,12 @@ each-holds [] t k c h = absurd (omega arith)
 each-holds (x ∷ xs) t zero c h = both (holds x) (allHold xs) t .0
 each-holds (x ∷ xs) t (suc k) c h = each-holds xs (both (holds x) (allHold xs) t .1) k c (omega arith)
 
--- a request that Route serves with some output
-served-clear : (columns rows : ℕ) (map : List ℕ) (s d : Place) (out : List ℕ) (k : ℕ) → requestRefusal columns rows map s d ≡ k →
-    routeRefusal columns rows map s d out ≡ 0 → k ≡ 0
-served-clear columns rows map s d out zero e h = refl
-served-clear columns rows map s d out (suc k) e h = let f = refused-before columns rows map s d out e in absurd (omega arith)
-
 pub case-served : (faults : List (ℕ × ℕ)) (s d : ℕ × ℕ) (expect : String) → T (holds (routes faults s d expect)) →
     Demand3 10 8 (faultMap faults) (place s) (place d)
 unfolding holds refusal
 case-served faults s d expect t =
     let h = eqb→eq (refusal faults s d) 0 (both (eqb (refusal faults s d) 0) _ t .0) in
-    demand-3 10 8 (faultMap faults) (place s) (place d) (served-clear 10 8 (faultMap faults) (place s) (place d) (replicate 100 0) _ refl h)
+    demand-3 10 8 (faultMap faults) (place s) (place d) (served-clear 10 8 (faultMap faults) (place s) (place d) (replicate 100 0) h)
 
 -- map A, (1, 5) to (6, 5): case number 5, counted from 0
 pub example : Demand3 10 8 (faultMap A) (place (1, 5)) (place (6, 5))

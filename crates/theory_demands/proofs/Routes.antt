@@ -1,8 +1,8 @@
 -- What Route answers and writes, by whether one of refusals 1 to 9 applies to the request. Assumes nothing.
-use mathlib.Core.Path.{_≡_, sym, _∙_}
+use mathlib.Core.Path.{_≡_, refl, sym, _∙_}
 use mathlib.Core.Bool.{cond}
 use mathlib.Core.List.{List, _++_, append-assoc}
-use Prim.Native.Nat.{ℕ, suc, _≤_, _<_}
+use Prim.Native.Nat.{ℕ, zero, suc, _≤_, _<_}
 use native.Mathlib.Decide.{decLe}
 use native.Mathlib.Omega.{arith}
 use borrow.Author.Tests.{lt-ltb, le-ltb}
@@ -29,9 +29,8 @@ use Rattle.theory_demands.proofs.Requests.{Clear}
 returned-refused {ℓ} : {A : Type ℓ} {n k : ℕ} → returned n ≡ Answer.refused k → A
 returned-refused e = let z : _≡_ {A = ℕ} 0 1 = cc in absurd (omega arith)
 
--- None applies.
-module _ {columns rows : ℕ} {map : List ℕ} {s d : Place} (clear : Clear columns rows map s d) {out : List ℕ} {r : Routed}
-    {after : List ℕ} (does : Routes columns rows map s d out r after) where
+-- None applies: 10 does exactly if there is room for fewer.
+module _ {columns rows : ℕ} {map : List ℕ} {s d : Place} (clear : Clear columns rows map s d) (out : List ℕ) where
   abbrev hs : List Heading
   hs = hops columns rows map s d
 
@@ -41,39 +40,40 @@ module _ {columns rows : ℕ} {map : List ℕ} {s d : Place} (clear : Clear colu
       clear-next (mapTests columns rows map) _ (map-numbered columns rows map) (clear .passed .map-passes) ∙
       clear-next (requestTests (marked (mesh columns rows map)) s d) _ (request-numbered _ s d) (clear .none)
 
-  short-ten : length out < length hs → routeRefusal columns rows map s d out ≡ 10
+  pub short-ten : length out < length hs → routeRefusal columns rows map s d out ≡ 10
   short-ten h = only-room ∙ rw (lt-ltb _ _ h)
 
-  room-none : length hs ≤ length out → routeRefusal columns rows map s d out ≡ 0
+  pub room-none : length hs ≤ length out → routeRefusal columns rows map s d out ≡ 0
   room-none h = only-room ∙ rw (le-ltb _ _ h)
 
-  answers-ten : length out < length hs → routedAnswer r ≡ Answer.refused 10
-  unfolding answer
-  answers-ten h = does .answers ∙ rw (short-ten h)
+  module _ {r : Routed} {after : List ℕ} (does : Routes columns rows map s d out r after) where
+    answers-ten : length out < length hs → routedAnswer r ≡ Answer.refused 10
+    unfolding answer
+    answers-ten h = does .answers ∙ rw (short-ten h)
 
-  answers-number : length hs ≤ length out → routedAnswer r ≡ returned (length hs)
-  unfolding answer
-  answers-number h = does .answers ∙ rw (room-none h)
+    answers-number : length hs ≤ length out → routedAnswer r ≡ returned (length hs)
+    unfolding answer
+    answers-number h = does .answers ∙ rw (room-none h)
 
-  leaves-output : length out < length hs → after ≡ out
-  unfolding written
-  leaves-output h = does .writes ∙ rw (short-ten h)
+    leaves-output : length out < length hs → after ≡ out
+    unfolding written
+    leaves-output h = does .writes ∙ rw (short-ten h)
 
-  writes-letters : length hs ≤ length out → after ≡ letters hs ++ drop (length hs) out
-  unfolding written
-  writes-letters h = does .writes ∙ rw (room-none h, letters-length)
+    writes-letters : length hs ≤ length out → after ≡ letters hs ++ drop (length hs) out
+    unfolding written
+    writes-letters h = does .writes ∙ rw (room-none h, letters-length)
 
-  ten-short : Dec (length hs ≤ length out) → routedAnswer r ≡ Answer.refused 10 → length out < length hs
-  ten-short (yes h) e = returned-refused (sym (answers-number h) ∙ e)
-  ten-short (no h) e = omega arith
+    ten-short : Dec (length hs ≤ length out) → routedAnswer r ≡ Answer.refused 10 → length out < length hs
+    ten-short (yes h) e = returned-refused (sym (answers-number h) ∙ e)
+    ten-short (no h) e = omega arith
 
-  pub route-given : RouteGiven columns rows map s d out r after
-  route-given = record {
-    ten = (ten-short (decLe _ _), answers-ten);
-    unchanged = leaves-output;
-    reports = answers-number;
-    writes = writes-letters;
-  }
+    pub route-given : RouteGiven columns rows map s d out r after
+    route-given = record {
+      ten = (ten-short (decLe _ _), answers-ten);
+      unchanged = leaves-output;
+      reports = answers-number;
+      writes = writes-letters;
+    }
 
 -- One applies: it stands before 10.
 
@@ -86,3 +86,12 @@ module _ (columns rows : ℕ) (map : List ℕ) (s d : Place) (out : List ℕ) {k
       (routedAnswer r ≡ Answer.refused (suc k)) × (after ≡ out)
   unfolding answer written
   refused-given does = (does .answers ∙ rw refused-before, does .writes ∙ rw refused-before)
+
+-- so a request that Route serves with some output is one that none applies to
+pub served-clear : (columns rows : ℕ) (map : List ℕ) (s d : Place) (out : List ℕ) → routeRefusal columns rows map s d out ≡ 0 →
+    requestRefusal columns rows map s d ≡ 0
+served-clear columns rows map s d out h = by (requestRefusal columns rows map s d) refl
+  where
+    by : (k : ℕ) → requestRefusal columns rows map s d ≡ k → k ≡ 0
+    by zero e = refl
+    by (suc k) e = let f = refused-before columns rows map s d out e in absurd (omega arith)

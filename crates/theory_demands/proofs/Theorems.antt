@@ -41,7 +41,7 @@ module _ (columns rows : ℕ) (map : List ℕ) (s d : Place) where
         lawfully = arrives clear .route;
         on-the-way = λ k h. way clear k h .place;
         bounded = arrives clear .hops;
-        routed = λ out r after does. route-given clear does;
+        routed = λ out r after does. route-given clear out does;
         moves = λ calls on. goes clear 0 (omega arith) refl on;
         answers = λ calls on. answers-from (goes clear 0 (omega arith) refl on);
       }

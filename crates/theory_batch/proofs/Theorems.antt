@@ -1,0 +1,70 @@
+-- What is shown of a table of sends. Each theorem is proved in the file that its proof cites. Assumes nothing.
+use mathlib.Core.Path.{_≡_, ap, _∙_}
+use mathlib.Core.Logic.{_≢_}
+use mathlib.Core.List.{List, map}
+use Prim.Native.Nat.{ℕ, _*_, _≤_}
+use lib.ListN.{length, take}
+use lib.Seq.{take-at}
+use Rattle.mesh.specs.declared.Routed.{Routed}
+use Rattle.mesh.specs.Headings.{letters}
+use Rattle.mesh.specs.Numbers.{Answer, answer, written}
+use Rattle.mesh.specs.Routing.{routedAnswer, Routes}
+use Rattle.theory_walk.specs.Claims.{mostHops}
+use Rattle.theory_batch.specs.declared.Send.{Send}
+use Rattle.theory_batch.specs.declared.Batched.{Batched}
+use Rattle.theory_batch.specs.Sends.{sendsOf}
+use Rattle.theory_batch.specs.Batch.{call, routeCall, calls, answersOf, batch, batchRefusal, RoutesBatch}
+use Rattle.theory_batch.specs.Claims.{alone, needed, Gives, parts}
+use Rattle.theory_batch.proofs.Calls.{written-unless, answers-length}
+use Rattle.theory_batch.proofs.Alone.{not-ten-alone, calls-alone, needed-most}
+use Rattle.theory_batch.proofs.Parts.{calls-parted}
+
+module _ (columns rows : ℕ) (faults : List ℕ) where
+  -- Of a single call of Route, which keeps its promise `Routes`:
+  module _ (x : Send) (free : List ℕ) (r : Routed) (after : List ℕ) (does : Routes columns rows faults (x .source) (x .destination) free r after) where
+    -- it does what a table says of it
+    pub call-is-route : Gives (routeCall columns rows faults x free) free (routedAnswer r) after
+    unfolding routeCall call
+    call-is-route = record { answers = does .answers; writes = does .writes ∙ written-unless _ _ _ }
+
+    -- unless it is refused 10 it does the same whatever is free
+    pub alone-is-route : routedAnswer r ≢ Answer.refused 10 → Gives (alone columns rows faults x) free (routedAnswer r) after
+    unfolding answer
+    alone-is-route not-ten =
+        let same = not-ten-alone columns rows faults x free (λ e. not-ten (does .answers ∙ rw e)) in
+        rw (← same) call-is-route
+
+  -- Of sends in a table, in any order and among any others:
+  -- with room for the letters of all, each is called as if alone
+  pub room-for-all : (xs : List Send) (out : List ℕ) → needed columns rows faults xs ≤ length out →
+      calls (routeCall columns rows faults) xs out ≡ map (alone columns rows faults) xs
+  room-for-all = calls-alone columns rows faults
+
+  -- 4,034 bytes for each send are such room
+  pub room-always : (xs : List Send) → needed columns rows faults xs ≤ mostHops * length xs
+  room-always = needed-most columns rows faults
+
+  -- Of the operation, where none of 1 to 5 and 18 applies:
+  module _ (sends answers out : List ℕ) (r : Batched) (answers′ out′ : List ℕ) (does : RoutesBatch columns rows faults sends answers out r answers′ out′)
+      (none : batchRefusal columns rows faults sends answers ≡ 0) where
+    -- the answer list begins with an answer for each send
+    pub each-answered : take (length (sendsOf sends)) answers′ ≡ answersOf (batch columns rows faults sends out)
+    unfolding written
+    each-answered =
+        let enters = rw none at (does .enters) in
+        rw enters (take-at (answersOf (batch columns rows faults sends out)) _ _ (answers-length (routeCall columns rows faults) (sendsOf sends) out))
+
+    -- and by these answers alone the output falls into the letters of each
+    pub each-part : parts (take (length (sendsOf sends)) answers′) out′ ≡ map (λ c. c .letters) (batch columns rows faults sends out)
+    unfolding written
+    each-part =
+        let writes = rw none at (does .writes) in
+        rw (each-answered, writes) (calls-parted columns rows faults (sendsOf sends) out _)
+
+    -- with room for all, answer and letters of each send are those of its call alone, wherever it stands
+    pub each-alone : needed columns rows faults (sendsOf sends) ≤ length out →
+        (take (length (sendsOf sends)) answers′ ≡ answersOf (map (alone columns rows faults) (sendsOf sends))) ×
+        (parts (take (length (sendsOf sends)) answers′) out′ ≡ map (λ c. c .letters) (map (alone columns rows faults) (sendsOf sends)))
+    each-alone room =
+        let same = room-for-all (sendsOf sends) out room in
+        (each-answered ∙ ap answersOf same, each-part ∙ ap (map (λ c. c .letters)) same)

@@ -1,0 +1,4 @@
+pub mod Sends
+pub mod Batch
+pub mod Claims
+pub mod Cases
