@@ -38,6 +38,14 @@ over-from xs i (y ∷ ys) h =
 pub over-all : (xs ys : List ℕ) → length ys ≤ length xs → over xs 0 ys ≡ ys ++ drop (length ys) xs
 over-all xs ys h = over-from xs 0 ys (omega arith) ∙ rw (zero-add (length ys))
 
+-- what lies after them is as it was
+pub over-drop : (xs : List ℕ) (i : ℕ) (ys : List ℕ) → drop (i + length ys) (over xs i ys) ≡ drop (i + length ys) xs
+unfolding over
+over-drop xs i [] = refl
+over-drop xs i (y ∷ ys) =
+    let next : i + suc (length ys) ≡ i + 1 + length ys = omega arith in
+    rw next (over-drop (set xs i y) (i + 1) ys ∙ drop-set-lt (i + 1 + length ys) xs i y (omega arith))
+
 pub puts-nothing : (out : List ℕ) (at : ℕ) → at ≤ length out → Puts out at [] at out
 unfolding over
 puts-nothing out at h = record { next = omega arith; stands = refl; fits = h }

@@ -17,5 +17,4 @@ sends-length (r ∷ []) = refl
 sends-length [] = refl
 
 pub even-whole : (xs : List ℕ) → uneven xs ≡ false → length xs ≡ 4 * (length xs / 4)
-unfolding uneven
 even-whole xs e = let m = eqb-true (length xs % 4) 0 (not-false _ e) in omega arith

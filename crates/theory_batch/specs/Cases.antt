@@ -20,7 +20,7 @@ use Rattle.mesh.specs.Maps.{badSize, badLength, some, badByte, allowed, misplac
 use Rattle.mesh.specs.Requests.{offMesh, inBlock, onARing, unserved, placeTests, tripTests, requestTests}
 use Rattle.mesh.specs.Routing.{hopsOf, sendTests, routeRefusal}
 use Rattle.mesh.specs.Cases.{A, bytes, faultMap}
-use Rattle.theory_batch.specs.Sends.{sendsOf, uneven}
+use Rattle.theory_batch.specs.Sends.{sendsOf}
 use Rattle.theory_batch.specs.Batch.{unlessRefused, call, routeCall, calls, answersOf, lettersOf, batch, batchRefusal}
 
 pub data Case : Type 0 where
@@ -65,6 +65,6 @@ unfolding worked table allHold holds A bytes onMesh rowAfter columnAfter letters
     upright ruleA ruleB unsafe become advance round sameList settle run corner blockAt select blocks reaches onRing onSomeRing
     blocked side toward own stopped again atDestination inRow leaving across nearing otherRow hop moved arrived hopAt walk
     shutIn distance detours bound badSize badLength some badByte allowed misplacedAt misplaced mapTests offMesh inBlock onARing
-    unserved placeTests tripTests requestTests hopsOf sendTests routeRefusal sendsOf uneven unlessRefused call routeCall calls
+    unserved placeTests tripTests requestTests hopsOf sendTests routeRefusal sendsOf unlessRefused call routeCall calls
     answersOf lettersOf batchRefusal
 worked-hold = tt

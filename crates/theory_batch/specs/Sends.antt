@@ -20,5 +20,5 @@ sendsOf (r ∷ []) = []
 sendsOf [] = []
 
 -- the list isn't whole sends
-unfoldable pub uneven : List ℕ → Bool
+abbrev pub uneven : List ℕ → Bool
 uneven sends = not (eqb (length sends % 4) 0)

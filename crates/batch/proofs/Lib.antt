@@ -1,0 +1,3 @@
+pub mod Sends
+pub mod Sending
+pub mod Mapped
