@@ -1,3 +1,4 @@
 pub mod Over
 pub mod Copy
 pub mod Repeat
+pub mod First

@@ -1,4 +1,4 @@
--- What stands in a buffer after bytes were written into it. Assumes nothing.
+-- What stands in a buffer after bytes or numbers were written into it. Assumes nothing.
 use mathlib.Core.Path.{_≡_}
 use mathlib.Core.List.{List, [], _∷_}
 use Prim.Native.Nat.{ℕ, _+_, _≤_}
@@ -14,3 +14,8 @@ pub record Puts (out : List ℕ) (at : ℕ) (ys : List ℕ) (x : ℕ) (after : L
   pub next : x ≡ at + length ys
   pub stands : after ≡ over out at ys
   pub fits : x ≤ length out
+
+-- a number put first, if there is room for it; nothing else is touched
+unfoldable pub putFirst : ℕ → List ℕ → List ℕ
+putFirst i [] = []
+putFirst i (x ∷ xs) = i ∷ xs

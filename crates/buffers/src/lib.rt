@@ -1,9 +1,9 @@
-// Bytes written into a lent buffer.
+// Bytes written into a lent buffer, and a number into a lent list.
 ghost use mathlib.Core.Path.{_≡_};
 ghost use mathlib.Core.List.{[], _∷_};
 ghost use Prim.Native.Nat.{_≤_, _<_, _+_, min};
 ghost use lib.ListN.{length, replicate};
-ghost use Rattle.buffers.specs.Over.{over, Puts};
+ghost use Rattle.buffers.specs.Over.{over, Puts, putFirst};
 
 // The smaller number.
 fn least(a: usize, b: usize) -> usize
@@ -51,4 +51,13 @@ pub fn put(out: &mut [u8], at: usize, from: &[u8]) -> usize
         i += 1;
     }
     at + n
+}
+
+// Puts a number first into a list, if there is room for it.
+pub fn put_first(x: u64, xs: &mut [u64])
+    ensures { λ _. ⌜ now (xs .exit) ≡ putFirst x (now (xs .entry)) ⌝ }
+{
+    if 0 < xs.len() {
+        xs[0] = x;
+    }
 }

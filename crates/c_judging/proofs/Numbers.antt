@@ -7,7 +7,8 @@ use lib.ListN.{length, set}
 use Rattle.mesh.specs.declared.Judged.{Judged}
 use Rattle.mesh.specs.declared.Place.{Place}
 use Rattle.mesh.specs.Judging.{judgedVerdict, verdictCode, verdictIndex, judgement}
-use Rattle.c_judging.specs.Numbers.{putFirst, JudgesInNumbers}
+use Rattle.buffers.specs.Over.{putFirst}
+use Rattle.c_judging.specs.Numbers.{JudgesInNumbers}
 
 -- the places that the operation is given are those of the call
 pub judges : {s s′ d d′ : Place} → s ≡ s′ → d ≡ d′ → {columns rows x i : ℕ} {map xs index after : List ℕ} (r : Judged) →
@@ -16,13 +17,3 @@ pub judges : {s s′ d d′ : Place} → s ≡ s′ → d ≡ d′ → {columns 
 judges es ed {index = index} r m ei ea e =
     rw (← es, ← ed)
     record { answers = e ∙ ap verdictCode m; writes = ea ∙ ap (λ v. putFirst v index) (ei ∙ ap verdictIndex m) }
-
-pub put : (x : ℕ) (xs : List ℕ) → 0 < length xs → set xs 0 x ≡ putFirst x xs
-unfolding putFirst
-put x [] h = absurd (omega arith)
-put x (y ∷ xs) h = refl
-
-pub no-room : (x : ℕ) (xs : List ℕ) → length xs ≤ 0 → xs ≡ putFirst x xs
-unfolding putFirst
-no-room x [] h = refl
-no-room x (y ∷ xs) h = absurd (omega arith)

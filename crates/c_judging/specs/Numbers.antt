@@ -4,11 +4,7 @@ use mathlib.Core.List.{List, [], _∷_}
 use Prim.Native.Nat.{ℕ}
 use Rattle.mesh.specs.declared.Place.{Place}
 use Rattle.mesh.specs.Judging.{verdictCode, verdictIndex, judgement}
-
--- a number put first, if there is room for it; nothing else is touched
-unfoldable pub putFirst : ℕ → List ℕ → List ℕ
-putFirst i [] = []
-putFirst i (x ∷ xs) = i ∷ xs
+use Rattle.buffers.specs.Over.{putFirst}
 
 -- its promise: x is 0 for passed or the number of what is wrong, and the length or the index of what is wrong stands first in index
 pub record JudgesInNumbers (columns rows : ℕ) (map : List ℕ) (s d : Place) (xs index : List ℕ) (x : ℕ) (after : List ℕ) : Type 0 where

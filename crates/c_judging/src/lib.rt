@@ -1,20 +1,11 @@
 // "Judge a hand-in" for programs in C and Rust (c/pinduguil.h).
-ghost use mathlib.Core.Path.{_≡_};
 ghost use Rattle.mesh.specs.Mesh.{place};
-ghost use Rattle.c_judging.specs.Numbers.{putFirst, JudgesInNumbers};
+ghost use Rattle.c_judging.specs.Numbers.{JudgesInNumbers};
+use buffers::put_first;
 use judging::judge;
 use numbers::judged_code;
 use numbers::judged_index;
 use numbers::place_of;
-
-// Puts a number first, if there is room for it.
-fn put_first(x: u64, xs: &mut [u64])
-    ensures { λ _. ⌜ now (xs .exit) ≡ putFirst x (now (xs .entry)) ⌝ }
-{
-    if 0 < xs.len() {
-        xs[0] = x;
-    }
-}
 
 #[no_mangle]
 pub extern "C" fn pinduguil_judge(

@@ -1,9 +1,9 @@
 -- Where there is room the first number is replaced; an empty list stays as it is. Assumes nothing.
 use borrow.Author.Needs.{needs}
 use native.Mathlib.Omega.{arith}
-use Rattle.c_judging.proofs.Numbers.{put, no-room}
-use Rattle.c_judging.proofs.put_first.Statement.{statement}
-use Rattle.c_judging.proofs.put_first.Tie as tie
+use Rattle.buffers.proofs.First.{put, no-room}
+use Rattle.buffers.proofs.put_first.Statement.{statement}
+use Rattle.buffers.proofs.put_first.Tie as tie
 
 slice-write-xs : tie.Need-slice-write-xs
 slice-write-xs c = search needs
