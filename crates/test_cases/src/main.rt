@@ -1,5 +1,6 @@
 // The bench cases of document 01, starred ones included, and some more on moving on and judging. Prints each request with its answer; the
 // file stdout has the answers of the paper. Meshes have 10 columns and 8 rows, and a place is one number, as 34 for (3,4).
+mod batch_cases;
 mod judging_cases;
 mod marking_cases;
 mod moving_cases;
@@ -11,6 +12,7 @@ fn main() {
     marking_cases::try_faults();
     marking_cases::try_sizes();
     routing_cases::try_routes();
+    batch_cases::try_tables();
     judging_cases::try_hand_ins();
     moving_cases::try_packets();
 }
