@@ -1,4 +1,5 @@
-/* A bench display: marks a map, routes a packet, judges the route and moves the packet along it; then hand-ins that break a turn rule.
+/* A bench display: marks a map, routes a packet, judges the route and moves the packet along it; then a table of sends, and hand-ins that break
+ * a turn rule.
  *   c/library && cc c/display.c target/staticlib/libpinduguil.a -o display && ./display */
 #include <stdio.h>
 
@@ -38,6 +39,22 @@ int main(void) {
             return 1;
         }
         printf("%c to (%u, %u)\n", (int)moved, (unsigned)packet[0], (unsigned)packet[1]);
+    }
+
+    /* A table of sends; the second has no room. */
+    const uint32_t sends[] = {1, 5, 6, 5, 3, 0, 3, 9, 3, 9, 3, 8};
+    uint32_t answers[3];
+    uint64_t count[1];
+    pinduguil_route_batch(COLUMNS, ROWS, map, sizeof map, sends, 12, answers, 3, letters, 12, count, 1);
+    printf("table of %llu letters: ", (unsigned long long)count[0]);
+    const uint8_t *next = letters;
+    for (int i = 0; i < 3; i++) {
+        if (answers[i] >= PINDUGUIL_REFUSED) {
+            printf("no %u, ", (unsigned)(answers[i] - PINDUGUIL_REFUSED));
+            continue;
+        }
+        printf("%.*s%s", (int)answers[i], (const char *)next, i == 2 ? "\n" : ", ");
+        next += answers[i];
     }
 
     /* Hand-ins with a forbidden turn: which rule it breaks. */

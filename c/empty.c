@@ -29,6 +29,19 @@ int main(void) {
     show("route, no output, no hops", pinduguil_route(COLUMNS, ROWS, map, sizeof map, 1, 2, 1, 2, NULL, 0));
     show("route, neither", pinduguil_route(COLUMNS, ROWS, NULL, 0, 1, 2, 1, 4, NULL, 0));
 
+    uint64_t count[1] = {9};
+    uint32_t answers[1] = {7};
+    const uint32_t sends[] = {1, 2, 1, 4};
+    show("table, no map", pinduguil_route_batch(COLUMNS, ROWS, NULL, 0, sends, 4, answers, 1, out, sizeof out, count, 1));
+    show("table, no answers", pinduguil_route_batch(COLUMNS, ROWS, map, sizeof map, sends, 4, NULL, 0, out, sizeof out, count, 1));
+    printf("answer %u, count %u\n", (unsigned)answers[0], (unsigned)count[0]);
+    show("table, no output", pinduguil_route_batch(COLUMNS, ROWS, map, sizeof map, sends, 4, answers, 1, NULL, 0, count, 1));
+    printf("answer %u, count %u\n", (unsigned)answers[0], (unsigned)count[0]);
+    show("table, no count", pinduguil_route_batch(COLUMNS, ROWS, map, sizeof map, sends, 4, answers, 1, out, sizeof out, NULL, 0));
+    printf("answer %u, count %u\n", (unsigned)answers[0], (unsigned)count[0]);
+    show("table, no sends", pinduguil_route_batch(COLUMNS, ROWS, map, sizeof map, NULL, 0, NULL, 0, NULL, 0, count, 1));
+    show("table, none of them", pinduguil_route_batch(COLUMNS, ROWS, NULL, 0, NULL, 0, NULL, 0, NULL, 0, NULL, 0));
+
     index[0] = 9;
     show("judge, no map", pinduguil_judge(COLUMNS, ROWS, NULL, 0, 1, 2, 1, 4, letters, sizeof letters, index, 1));
     printf("index %u\n", (unsigned)index[0]);

@@ -5,7 +5,7 @@
  *
  * A slice is a pointer and then the number of its elements. Where the number is 0 the pointer may be NULL: nothing is read or written
  * through it. An output overlaps nothing else that is handed over. All other arguments may be anything: what is wrong is refused by its
- * number. Maps and letters are only read.
+ * number. Maps, sends and hand-ins are only read.
  *
  * Refusals, in the order in which they are tested:
  *   1 columns not 1 to 64            6 source or destination off the mesh
@@ -13,6 +13,8 @@
  *   3 map length not columns * rows  8 destination on a ring
  *   4 a map byte above 1             9 a hop by the rules would be unlawful
  *   5 a fault where none is allowed  10 the output is too short
+ * A table of sends as a whole is refused by 1 to 5, then by
+ *   18 the list isn't whole sends, or there are fewer entries for answers than sends
  */
 #ifndef PINDUGUIL_H
 #define PINDUGUIL_H
@@ -25,6 +27,9 @@
 
 /* No route has more hops: an output of this many bytes has room for every route. */
 #define PINDUGUIL_MOST_HOPS 4034
+
+/* The refusal of a table of sends that is no table. */
+#define PINDUGUIL_NOT_SENDS 18u
 
 /* What is wrong with a hand-in, in the order in which it is tested: letter by letter the first six, after the last letter the seventh.
  * Rule 1 of document 001 is about EN and NW turns, rule 2 about ES and SW. */
@@ -50,6 +55,17 @@ uint32_t pinduguil_mark(uint32_t columns, uint32_t rows, const uint8_t *map, siz
 uint32_t pinduguil_route(uint32_t columns, uint32_t rows, const uint8_t *map, size_t map_length,
                          uint32_t source_row, uint32_t source_column, uint32_t row, uint32_t column,
                          uint8_t *out, size_t out_length);
+
+/* A whole table of sends on one map, which is checked and marked once. A send is four numbers: source row and column, destination row and
+ * column. Each in turn is answered as pinduguil_route would answer it with the part of out that is still free: its entry of answers is the
+ * number of its hops, whose letters stand after those of the sends before it, or PINDUGUIL_REFUSED plus 6 to 10. One that is refused takes no
+ * room, so a later, shorter one may still fit; with PINDUGUIL_MOST_HOPS bytes for each send all fit.
+ * Answers 0, and the number of all letters is written to letters[0] if there is room for it; or a refusal, 1 to 5 or PINDUGUIL_NOT_SENDS, and
+ * then nothing is written. Entries of answers beyond the last send, bytes of out after the letters and numbers of letters beyond the
+ * first are left alone. */
+uint32_t pinduguil_route_batch(uint32_t columns, uint32_t rows, const uint8_t *map, size_t map_length,
+                               const uint32_t *sends, size_t sends_length, uint32_t *answers, size_t answers_length,
+                               uint8_t *out, size_t out_length, uint64_t *letters, size_t letters_length);
 
 /* Judge a hand-in: letters that should lead from a source to (row, column). Answers 0 if it is passed, or what is wrong:
  * a refusal 1 to 7, or 11 not a letter, 12 leaves the mesh, 13 reverses, 14 breaks rule 1, 17 breaks rule 2, 15 enters a block, 16 does not

@@ -1,4 +1,5 @@
-//! Loads a map, marks it, routes a packet, judges the route and moves the packet along it; then what bad requests and hand-ins are answered.
+//! Loads a map, marks it, routes a packet, judges the route and moves the packet along it; routes a table of sends, with room for all and
+//! without; then what bad requests and hand-ins are answered.
 //!   c/library && rustc -O rust/loader.rs -L target/staticlib -l static=pinduguil -o loader && ./loader
 mod wrapper;
 use wrapper::{Mesh, Moved, Packet, Place, MOST_HOPS};
@@ -29,6 +30,23 @@ fn main() {
     }
 
     let ring = Place { row: 4, column: 6 };
+    let (west, east) = (Place { row: 3, column: 0 }, Place { row: 3, column: 9 });
+    let sends = [[source, destination], [west, east], [west, ring], [east, Place { row: 3, column: 8 }]];
+    let mut answers = [0; 4];
+    let mut room = vec![0; sends.len() * MOST_HOPS];
+    for out in [&mut room[..], &mut [0; 12]] {
+        match mesh.route_batch(&sends, &mut answers, out) {
+            Err(why) => println!("no {}", why.0),
+            Ok(batch) => {
+                println!("table of {} letters", batch.letters().len());
+                for answer in batch {
+                    println!("{:?}", answer.map(String::from_utf8_lossy));
+                }
+            }
+        }
+    }
+    println!("{:?}", mesh.route_batch(&sends, &mut answers[..3], &mut room).err());
+
     println!("{:?}", mesh.route(source, ring, &mut out));
     println!("{:?}", Mesh { columns: 65, ..mesh }.mark(&mut marks));
     println!("{:?}", mesh.judge(Place { row: 3, column: 5 }, destination, b"N"));

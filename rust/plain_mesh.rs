@@ -1,7 +1,7 @@
-//! The operations of document 01 in plain Rust: std only, written the direct way from the paper, apart from the proved code. The
+//! The operations of documents 01 and 02 in plain Rust: std only, written the direct way from the paper, apart from the proved code. The
 //! differential test compares the library with it, and speed is measured against it.
-//! There is a section for each operation. `mark`, `route`, `judge` and `move_on` answer and write as the functions of c/pinduguil.h do, on
-//! a map that `Mesh::new` has checked and marked, or refused.
+//! There is a section for each operation. `mark`, `route`, `route_batch`, `judge` and `move_on` answer and write as the functions of
+//! c/pinduguil.h do, on a map that `Mesh::new` has checked and marked, or refused.
 #![allow(dead_code)]
 
 /// An answer that is this or more is this plus the number of a refusal.
@@ -287,6 +287,35 @@ impl Mesh {
         }
         Ok(())
     }
+}
+
+// ---- A whole table of sends
+
+/// An answer is the number of hops, or 65,536 plus the refusal; the number of all letters goes to `letters`.
+pub fn route_batch(mesh: &Checked, sends: &[u32], answers: &mut [u32], out: &mut [u8], letters: &mut [u64]) -> u32 {
+    let mesh = match mesh {
+        Ok(mesh) => mesh,
+        Err(why) => return *why,
+    };
+    if sends.len() % 4 != 0 || answers.len() < sends.len() / 4 {
+        return 18;
+    }
+    let (mut at, mut route) = (0, vec![]);
+    for (send, answer) in sends.chunks(4).zip(answers) {
+        *answer = match mesh.route((send[0], send[1]), (send[2], send[3]), &mut route) {
+            Err(why) => REFUSED + why,
+            Ok(()) if out.len() - at < route.len() => REFUSED + 10,
+            Ok(()) => {
+                out[at..at + route.len()].copy_from_slice(&route);
+                at += route.len();
+                route.len() as u32
+            }
+        };
+    }
+    if let Some(first) = letters.first_mut() {
+        *first = at as u64;
+    }
+    0
 }
 
 // ---- Judge a hand-in

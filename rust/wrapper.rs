@@ -5,7 +5,8 @@
 /// No route has more hops: an output of this many bytes has room for every route.
 pub const MOST_HOPS: usize = 4034;
 
-/// The functions of the library as they are: an answer of 65,536 or more is that plus a refusal.
+/// The functions of the library as they are: an answer of 65,536 or more is that plus a refusal. `judge` and `route_batch` answer 0 or what
+/// is wrong.
 pub mod raw {
     pub mod library {
         extern "C" {
@@ -13,6 +14,10 @@ pub mod raw {
             pub fn pinduguil_route(
                 columns: u32, rows: u32, map: *const u8, map_length: usize, source_row: u32, source_column: u32, row: u32, column: u32,
                 out: *mut u8, out_length: usize,
+            ) -> u32;
+            pub fn pinduguil_route_batch(
+                columns: u32, rows: u32, map: *const u8, map_length: usize, sends: *const u32, sends_length: usize, answers: *mut u32,
+                answers_length: usize, out: *mut u8, out_length: usize, letters: *mut u64, letters_length: usize,
             ) -> u32;
             pub fn pinduguil_judge(
                 columns: u32, rows: u32, map: *const u8, map_length: usize, source_row: u32, source_column: u32, row: u32, column: u32,
@@ -36,6 +41,17 @@ pub mod raw {
         }
     }
 
+    pub fn route_batch(
+        columns: u32, rows: u32, map: &[u8], sends: &[u32], answers: &mut [u32], out: &mut [u8], letters: &mut [u64],
+    ) -> u32 {
+        unsafe {
+            library::pinduguil_route_batch(
+                columns, rows, map.as_ptr(), map.len(), sends.as_ptr(), sends.len(), answers.as_mut_ptr(), answers.len(),
+                out.as_mut_ptr(), out.len(), letters.as_mut_ptr(), letters.len(),
+            )
+        }
+    }
+
     pub fn judge(
         columns: u32, rows: u32, map: &[u8], source: (u32, u32), destination: (u32, u32), letters: &[u8], index: &mut [u64],
     ) -> u32 {
@@ -52,7 +68,7 @@ pub mod raw {
     }
 }
 
-/// The number of a refusal, 1 to 10.
+/// The number of a refusal, 1 to 10; 18 of a table of sends.
 #[derive(Clone, Copy, Debug, PartialEq, Eq)]
 pub struct Refusal(pub u32);
 
@@ -62,8 +78,9 @@ fn answer(x: u32) -> Result<u32, Refusal> {
     if x < REFUSED { Ok(x) } else { Err(Refusal(x - REFUSED)) }
 }
 
-/// A row and a column, counted from 0.
+/// A row and a column, counted from 0. Two numbers in this order, and nothing else, so that a list of places is a list of numbers.
 #[derive(Clone, Copy, Debug, PartialEq, Eq)]
+#[repr(C)]
 pub struct Place {
     pub row: u32,
     pub column: u32,
@@ -128,6 +145,34 @@ pub enum Judged {
     Refused(Refusal),
 }
 
+/// The answers of a table in the order of its sends: the letters of each, as a part of the output, or its refusal, 6 to 10.
+#[derive(Clone, Copy, Debug)]
+pub struct Batch<'a> {
+    answers: &'a [u32],
+    letters: &'a [u8],
+}
+
+impl<'a> Batch<'a> {
+    /// The letters of the sends that are still to come, one after another: at first of all.
+    pub fn letters(&self) -> &'a [u8] {
+        self.letters
+    }
+}
+
+impl<'a> Iterator for Batch<'a> {
+    type Item = Result<&'a [u8], Refusal>;
+
+    fn next(&mut self) -> Option<Self::Item> {
+        let (first, answers) = self.answers.split_first()?;
+        self.answers = answers;
+        Some(answer(*first).map(|hops| {
+            let (own, letters) = self.letters.split_at(hops as usize);
+            self.letters = letters;
+            own
+        }))
+    }
+}
+
 /// A mesh and its fault map: columns × rows bytes, row 0 first, 0 sound, 1 faulty.
 #[derive(Clone, Copy, Debug)]
 pub struct Mesh<'a> {
@@ -146,6 +191,19 @@ impl Mesh<'_> {
     pub fn route<'o>(&self, source: Place, destination: Place, out: &'o mut [u8]) -> Result<&'o [u8], Refusal> {
         let hops = answer(raw::route(self.columns, self.rows, self.map, source.pair(), destination.pair(), out))?;
         Ok(&out[..hops as usize])
+    }
+
+    /// Routes each send, a source and a destination, with the part of `out` that is still free; the map is checked and marked once. One that
+    /// doesn't fit is refused 10 and takes no room. `MOST_HOPS` bytes for each send are always enough. There must be an entry of `answers` for
+    /// each, else all is refused by 18.
+    pub fn route_batch<'o>(&self, sends: &[[Place; 2]], answers: &'o mut [u32], out: &'o mut [u8]) -> Result<Batch<'o>, Refusal> {
+        // Sound: two places are four numbers.
+        let numbers = unsafe { std::slice::from_raw_parts(sends.as_ptr().cast(), 4 * sends.len()) };
+        let mut letters = [0];
+        match raw::route_batch(self.columns, self.rows, self.map, numbers, answers, out, &mut letters) {
+            0 => Ok(Batch { answers: &answers[..sends.len()], letters: &out[..letters[0] as usize] }),
+            number => Err(Refusal(number)),
+        }
     }
 
     pub fn judge(&self, source: Place, destination: Place, letters: &[u8]) -> Judged {

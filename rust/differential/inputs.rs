@@ -7,7 +7,7 @@ use crate::random::Random;
 pub struct Case {
     pub columns: u32,
     pub rows: u32,
-    pub map: Input,
+    pub map: Input<u8>,
     pub mesh: Checked,
     pub blocks: Vec<Block>,
 }

@@ -1,6 +1,6 @@
 //! Judge a hand-in.
 use crate::inputs::Case;
-use crate::lent::{met, start, start_mut, Compared, Input, Output};
+use crate::lent::{self, met, start, start_mut, Compared, Input};
 use crate::plain_mesh::{self, after, node, Place};
 use crate::random::Random;
 use crate::routing::walk;
@@ -50,12 +50,11 @@ fn hand_in(rng: &mut Random, case: &Case, s: Place, d: &mut Place) -> Vec<u8> {
 
 impl Judging {
     pub fn check(&mut self, rng: &mut Random, case: &Case, s: Place, mut d: Place, compared: &mut Compared) {
-        let (columns, rows, map) = (case.columns, case.rows, case.map.bytes());
+        let (columns, rows, map) = (case.columns, case.rows, case.map.given());
         let hand_in = Input::new(&hand_in(rng, case, s, &mut d));
-        let letters = hand_in.bytes();
+        let letters = hand_in.given();
         let length = rng.below(4);
-        let filled = (0..length + 2).map(|i| (rng.next() as u64) << 32 | i as u64).collect();
-        let mut index: Output<u64> = Output::new(filled, 1);
+        let mut index = lent::numbers(length, || rng.next() as u64 | 1 << 40);
         let expected = plain_mesh::judge(&case.mesh, s, d, letters, index.plain());
         let room = index.room();
         let answer = if compared.goes_as_c([map.len(), letters.len(), length], &mut self.nulls) {
@@ -65,7 +64,7 @@ impl Judging {
             raw::judge(columns, rows, map, s, d, letters, room)
         };
         let detail = || format!("source {s:?} destination {d:?} letters {letters:?} index length {length}");
-        compared.request("judge", case, &[&case.map, &hand_in], &index, [answer, expected], detail);
+        compared.request("judge", case, &[&case.map, &hand_in], &[&index], [answer, expected], detail);
         self.answers[answer as usize] += 1;
         self.with_index[answer as usize] += (length > 0) as u64;
     }

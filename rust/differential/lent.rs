@@ -10,25 +10,40 @@ fn pattern(n: usize, seed: u32) -> Vec<u8> {
     (0..n + 2 * MARGIN).map(|i| (i as u32).wrapping_mul(151).wrapping_add(seed) as u8).collect()
 }
 
-/// Bytes that are only read. No call may change any of them.
-pub struct Input {
-    lent: Vec<u8>,
-    before: Vec<u8>,
+/// What a call was lent, afterwards.
+pub trait Lent: Debug {
+    /// In bytes.
+    fn size(&self) -> u64;
+    /// Whether it holds what it should.
+    fn is_right(&self) -> bool;
 }
 
-impl Input {
-    pub fn new(bytes: &[u8]) -> Input {
-        let mut lent = pattern(bytes.len(), 0);
-        lent[MARGIN..MARGIN + bytes.len()].copy_from_slice(bytes);
+/// What is only read. No call may change any of it.
+#[derive(Debug)]
+pub struct Input<T> {
+    lent: Vec<T>,
+    before: Vec<T>,
+}
+
+impl<T: Copy + From<u8>> Input<T> {
+    pub fn new(given: &[T]) -> Input<T> {
+        let mut lent: Vec<T> = pattern(given.len(), 0).into_iter().map(T::from).collect();
+        lent[MARGIN..MARGIN + given.len()].copy_from_slice(given);
         Input { before: lent.clone(), lent }
     }
 
-    pub fn bytes(&self) -> &[u8] {
+    pub fn given(&self) -> &[T] {
         &self.lent[MARGIN..self.lent.len() - MARGIN]
+    }
+}
+
+impl<T: PartialEq + Debug> Lent for Input<T> {
+    fn size(&self) -> u64 {
+        size_of_val(&self.lent[..]) as u64
     }
 
     /// The compiler may not take it for granted.
-    fn is_untouched(&self) -> bool {
+    fn is_right(&self) -> bool {
         black_box(&self.lent) == black_box(&self.before)
     }
 }
@@ -58,13 +73,28 @@ impl<T: Clone + PartialEq> Output<T> {
     }
 }
 
+impl<T: PartialEq + Debug> Lent for Output<T> {
+    fn size(&self) -> u64 {
+        size_of_val(&self.lent[..]) as u64
+    }
+
+    fn is_right(&self) -> bool {
+        self.lent == self.plain
+    }
+}
+
 /// So many bytes of a pattern.
 pub fn bytes(length: usize, seed: u32) -> Output<u8> {
     Output::new(pattern(length, seed), MARGIN)
 }
 
+/// So many numbers at random, with a margin of one.
+pub fn numbers<T: Clone + PartialEq>(length: usize, mut draw: impl FnMut() -> T) -> Output<T> {
+    Output::new((0..length + 2).map(|_| draw()).collect(), 1)
+}
+
 /// A slice's pointer as C has it: null where there is nothing.
-pub fn start(xs: &[u8]) -> *const u8 {
+pub fn start<T>(xs: &[T]) -> *const T {
     if xs.is_empty() { ptr::null() } else { xs.as_ptr() }
 }
 
@@ -74,7 +104,7 @@ pub fn start_mut<T>(xs: &mut [T]) -> *mut T {
 
 /// Prints the case and ends the test.
 pub fn differs(what: &str, case: &Case, detail: String) -> ! {
-    println!("DIFFERENCE in {what}: columns {} rows {} map {:?}", case.columns, case.rows, case.map.bytes());
+    println!("DIFFERENCE in {what}: columns {} rows {} map {:?}", case.columns, case.rows, case.map.given());
     println!("{detail}");
     std::process::exit(1)
 }
@@ -98,19 +128,17 @@ impl Compared {
     }
 
     /// Compares the answers of the library and of the plain mesh, what was written and what was only read.
-    pub fn request<T: Clone + PartialEq + Debug>(
-        &mut self, what: &str, case: &Case, inputs: &[&Input], output: &Output<T>, answers: [u32; 2], detail: impl Fn() -> String,
+    pub fn request(
+        &mut self, what: &str, case: &Case, inputs: &[&dyn Lent], outputs: &[&dyn Lent], answers: [u32; 2], detail: impl Fn() -> String,
     ) {
         self.requests += 1;
-        self.outputs += size_of_val(&output.lent[..]) as u64;
-        if answers[0] != answers[1] || output.lent != output.plain {
-            differs(what, case, format!("{}: answer {}, expected {}\n{output:?}", detail(), answers[0], answers[1]));
+        self.inputs += inputs.iter().map(|lent| lent.size()).sum::<u64>();
+        self.outputs += outputs.iter().map(|lent| lent.size()).sum::<u64>();
+        if answers[0] != answers[1] {
+            differs(what, case, format!("{}: answer {}, expected {}", detail(), answers[0], answers[1]));
         }
-        for input in inputs {
-            self.inputs += input.lent.len() as u64;
-            if !input.is_untouched() {
-                differs(what, case, format!("{}: input {:?}\nbefore {:?}", detail(), input.lent, input.before));
-            }
+        for lent in inputs.iter().chain(outputs).filter(|lent| !lent.is_right()) {
+            differs(what, case, format!("{}: answer {}\n{lent:?}", detail(), answers[0]));
         }
     }
 }

@@ -1,7 +1,8 @@
 //! The proved library against rust/plain_mesh.rs on random requests: answers, every byte of an output or a record and beside it, and that
-//! maps and letters are as they were. Prints counts; at the first difference it prints the case and exits with status 1. Each operation has
-//! a file of its own.
+//! maps, sends and hand-ins are as they were. Prints counts; at the first difference it prints the case and exits with status 1. Each operation
+//! has a file of its own.
 //!   c/library && rustc -O rust/differential/main.rs -L target/staticlib -l static=pinduguil -o differential && ./differential
+mod batch;
 mod inputs;
 mod judging;
 mod lent;
@@ -21,6 +22,7 @@ struct Tests {
     compared: lent::Compared,
     marking: marking::Marking,
     routing: routing::Routing,
+    batch: batch::Batch,
     judging: judging::Judging,
     moving: moving::Moving,
 }
@@ -30,6 +32,7 @@ impl Tests {
     fn check(&mut self, rng: &mut Random, case: &Case, turns: usize) {
         let compared = &mut self.compared;
         self.marking.check(rng, case, compared);
+        self.batch.check(rng, case, 12, compared);
         for _ in 0..turns {
             let (s, d) = (place(rng, case), place(rng, case));
             self.routing.check(rng, case, s, d, compared);
@@ -54,7 +57,8 @@ impl Tests {
     fn report(&self) -> bool {
         let lent::Compared { inputs, outputs, .. } = self.compared;
         println!("{outputs} bytes of outputs and {inputs} of inputs compared");
-        [self.marking.report(), self.routing.report(), self.judging.report(), self.moving.report()].iter().all(|&met| met)
+        let met = [self.marking.report(), self.routing.report(), self.batch.report(), self.judging.report(), self.moving.report()];
+        met.iter().all(|&met| met)
     }
 }
 
@@ -75,6 +79,10 @@ fn main() {
     for _ in 0..100 {
         let case = Case::bars(&mut rng);
         tests.check_long(&mut rng, &case);
+    }
+    for _ in 0..20 {
+        let case = Case::random(&mut rng, 64, 64);
+        tests.batch.check(&mut rng, &case, 8000, &mut tests.compared);
     }
     let largest = tests.compared.requests - sizes;
     // small ones, where blocks, rings and edges are close together

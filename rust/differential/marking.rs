@@ -13,7 +13,7 @@ pub struct Marking {
 
 impl Marking {
     pub fn check(&mut self, rng: &mut Random, case: &Case, compared: &mut Compared) {
-        let (columns, rows, map) = (case.columns, case.rows, case.map.bytes());
+        let (columns, rows, map) = (case.columns, case.rows, case.map.given());
         let n = map.len();
         let length = match rng.below(6) {
             0 => rng.below(24),
@@ -29,7 +29,7 @@ impl Marking {
         } else {
             raw::mark(columns, rows, map, room)
         };
-        compared.request("mark", case, &[&case.map], &out, [answer, expected], || format!("output length {length}"));
+        compared.request("mark", case, &[&case.map], &[&out], [answer, expected], || format!("output length {length}"));
         self.answers[answer.saturating_sub(REFUSED) as usize] += 1;
     }
 

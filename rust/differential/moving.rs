@@ -20,14 +20,14 @@ impl Moving {
         filled[1..1 + n].copy_from_slice(packet);
         let mut record = Output::new(filled, 1);
         let expected = plain_mesh::move_on(&case.mesh, record.plain());
-        let (columns, rows, map) = (case.columns, case.rows, case.map.bytes());
+        let (columns, rows, map) = (case.columns, case.rows, case.map.given());
         let room = record.room();
         let answer = if compared.goes_as_c([map.len(), n], &mut self.nulls) {
             unsafe { library::pinduguil_move_on(columns, rows, start(map), map.len(), start_mut(room), n) }
         } else {
             raw::move_on(columns, rows, map, room)
         };
-        compared.request("move_on", case, &[&case.map], &record, [answer, expected], || format!("packet {packet:?}"));
+        compared.request("move_on", case, &[&case.map], &[&record], [answer, expected], || format!("packet {packet:?}"));
         packet.copy_from_slice(record.room());
         let kind = match answer {
             0 => 0,

@@ -68,7 +68,7 @@ impl Routing {
         if expected != answered {
             differs("plain route", case, format!("source {s:?} destination {d:?} output length {length}: answer {expected}, walked {walked:?}"));
         }
-        let (columns, rows, map) = (case.columns, case.rows, case.map.bytes());
+        let (columns, rows, map) = (case.columns, case.rows, case.map.given());
         let room = out.room();
         let answer = if compared.goes_as_c([map.len(), length], &mut self.nulls) {
             unsafe { library::pinduguil_route(columns, rows, start(map), map.len(), s.0, s.1, d.0, d.1, start_mut(room), length) }
@@ -76,7 +76,7 @@ impl Routing {
             raw::route(columns, rows, map, s, d, room)
         };
         let detail = || format!("source {s:?} destination {d:?} output length {length}");
-        compared.request("route", case, &[&case.map], &out, [answer, expected], detail);
+        compared.request("route", case, &[&case.map], &[&out], [answer, expected], detail);
         self.answers[answer.saturating_sub(REFUSED) as usize] += 1;
         if answer < REFUSED {
             self.hops += n as u64;

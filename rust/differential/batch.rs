@@ -1,0 +1,105 @@
+//! A whole table of sends.
+use crate::inputs::{place, Case};
+use crate::lent::{self, differs, met, start, start_mut, Compared, Input};
+use crate::plain_mesh::{self, REFUSED};
+use crate::random::Random;
+use crate::routing::walk;
+use crate::wrapper::raw::{self, library};
+
+#[derive(Default)]
+pub struct Batch {
+    answers: [u64; 19], // by refusal; 0 answered
+    sends: [u64; 11],   // the same of each send
+    after: u64,         // served after one without room
+    empty: u64,         // tables without sends
+    most: u64,          // letters
+    nulls: [u64; 5],    // map, sends, answers, output, letters
+}
+
+/// What single calls of the library answer, each with what those before it left free of an output; all their letters stand in it.
+fn single_calls(case: &Case, sends: &[u32], out: &mut [u8]) -> Vec<u32> {
+    let mut at = 0;
+    let call = |send: &[u32]| {
+        let answer = raw::route(case.columns, case.rows, case.map.given(), (send[0], send[1]), (send[2], send[3]), &mut out[at..]);
+        at += if answer < REFUSED { answer as usize } else { 0 };
+        answer
+    };
+    sends.chunks(4).map(call).collect()
+}
+
+impl Batch {
+    pub fn check(&mut self, rng: &mut Random, case: &Case, most: usize, compared: &mut Compared) {
+        let places: Vec<_> = (0..rng.below(most)).map(|_| (place(rng, case), place(rng, case))).collect();
+        let hops: usize = places.iter().map(|&(s, d)| walk(case, s, d).map_or(0, |letters| letters.len())).sum();
+        let mut sends: Vec<_> = places.iter().flat_map(|(s, d)| [s.0, s.1, d.0, d.1]).collect();
+        if rng.one_in(20) {
+            sends.truncate(sends.len().saturating_sub(1 + rng.below(3)));
+        }
+        let sends = Input::new(&sends);
+        let n = sends.given().len() / 4;
+        let entries = match rng.below(12) {
+            0 => n.saturating_sub(1 + rng.below(3)),
+            1 => n + 1 + rng.below(3),
+            _ => n,
+        };
+        let length = match rng.below(5) {
+            0 => rng.below(hops + 1),
+            1 => rng.below(24),
+            2 => hops.saturating_sub(1),
+            3 => hops,
+            _ => hops + rng.below(40),
+        };
+        let mut answers = lent::numbers(entries, || rng.next());
+        let mut out = lent::bytes(length, rng.next());
+        let mut letters = lent::numbers(rng.below(3), || rng.next() as u64 | 1 << 40);
+        let expected = plain_mesh::route_batch(&case.mesh, sends.given(), answers.plain(), out.plain(), letters.plain());
+        if expected == 0 && rng.one_in(8) {
+            let mut single = lent::bytes(length, rng.next()).room().to_vec();
+            let answered = single_calls(case, sends.given(), &mut single);
+            let at: usize = answered.iter().filter(|&&x| x < REFUSED).map(|&x| x as usize).sum();
+            if answers.plain()[..n] != answered[..] || out.plain()[..at] != single[..at] {
+                differs("single calls", case, format!("sends {:?} output length {length}: {answered:?}", sends.given()));
+            }
+        }
+        let answer = self.call(case, sends.given(), answers.room(), out.room(), letters.room(), compared);
+        let detail = || format!("sends {:?} entries {entries} output length {length}", sends.given());
+        compared.request("route_batch", case, &[&case.map, &sends], &[&answers, &out, &letters], [answer, expected], detail);
+        self.answers[answer as usize] += 1;
+        if answer == 0 {
+            self.count(&answers.room()[..n]);
+        }
+    }
+
+    fn call(&mut self, case: &Case, sends: &[u32], answers: &mut [u32], out: &mut [u8], letters: &mut [u64], compared: &Compared) -> u32 {
+        let (columns, rows, map) = (case.columns, case.rows, case.map.given());
+        let (m, s, a, o, l) = (map.len(), sends.len(), answers.len(), out.len(), letters.len());
+        if !compared.goes_as_c([m, s, a, o, l], &mut self.nulls) {
+            return raw::route_batch(columns, rows, map, sends, answers, out, letters);
+        }
+        let (answers, out, letters) = (start_mut(answers), start_mut(out), start_mut(letters));
+        unsafe { library::pinduguil_route_batch(columns, rows, start(map), m, start(sends), s, answers, a, out, o, letters, l) }
+    }
+
+    fn count(&mut self, answers: &[u32]) {
+        let (mut full, mut letters) = (false, 0);
+        for &answer in answers {
+            self.sends[answer.saturating_sub(REFUSED) as usize] += 1;
+            if answer < REFUSED {
+                letters += answer as u64;
+                self.after += (full && answer > 0) as u64;
+            }
+            full |= answer == REFUSED + 10;
+        }
+        self.empty += answers.is_empty() as u64;
+        self.most = self.most.max(letters);
+    }
+
+    /// Prints counts, and says whether every answer and every null pointer was met.
+    pub fn report(&self) -> bool {
+        println!("table of sends: answered, refusals 1 to 18: {:?}", self.answers);
+        println!("    sends: served, refusals 1 to 10: {:?}; {} served after one without room", self.sends, self.after);
+        println!("    {} tables without sends; {} letters at most; null for map, sends, answers, output, letters: {:?}", self.empty, self.most, self.nulls);
+        let whole = met(&self.answers, [0, 1, 2, 3, 4, 5, 18]) && met(&self.sends, [0, 6, 7, 8, 9, 10]);
+        whole && self.after > 0 && self.empty > 0 && self.most > 65_535 && met(&self.nulls, 0..5)
+    }
+}
