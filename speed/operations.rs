@@ -1,8 +1,10 @@
-//! The operations on 64 x 64, the proved library against rust/plain_mesh.rs. A case is a list of calls; each checks and marks its map.
+//! The operations on 64 x 64, the proved library against rust/plain_mesh.rs. A case is a list of calls; each checks and marks its map. A
+//! table of sends is one call; singles-N sets it against as many single calls of the library.
 //!   operations CASE                   compares answers and output bytes; prints what was done, and then in one line the units of work in
 //!                                     the list and its nanoseconds, each call at its best, proved and plain
 //!   operations CASE proved|plain N    makes the first N calls and prints nothing, for counting instructions
-//! Cases: most-rounds, dense, judging, judging-nothing, one-map, many-maps, moving. `speed/run` builds it and shows its figures.
+//! Cases: most-rounds, dense, judging, judging-nothing, one-map, many-maps, moving, table-N, singles-N. `speed/run` builds it and shows its
+//! figures.
 #[path = "../rust/plain_mesh.rs"]
 mod plain_mesh;
 #[path = "../rust/wrapper.rs"]
@@ -22,6 +24,8 @@ struct Case {
     maps: Vec<Vec<u8>>, // one, or one for each trip
     trips: Vec<Trip>,
     letters: Vec<u8>,
+    sends: Vec<u32>, // a table's
+    room: usize,     // bytes of output
     calls: usize,
     sides: [fn(&Case, &mut Lent) -> u32; 2], // one call: proved, plain
 }
@@ -30,15 +34,17 @@ struct Case {
 #[derive(PartialEq, Eq, Debug)]
 struct Lent {
     out: Vec<u8>,
-    index: [u64; 1],
+    answers: Vec<u32>,
+    index: [u64; 1], // or the number of a table's letters
     packet: [u32; 5],
     trips: usize, // how many are begun
     moving: bool, // whether the last one goes on
 }
 
 impl Lent {
-    fn new() -> Lent {
-        Lent { out: vec![9; NODES + 8], index: [9], packet: [0; 5], trips: 0, moving: false }
+    fn new(case: &Case) -> Lent {
+        let answers = vec![9; case.sends.len() / 4];
+        Lent { out: vec![9; case.room], answers, index: [9], packet: [0; 5], trips: 0, moving: false }
     }
 }
 
@@ -86,6 +92,25 @@ fn proved_route(case: &Case, lent: &mut Lent) -> u32 {
 fn plain_route(case: &Case, lent: &mut Lent) -> u32 {
     let (map, [s, d]) = case.begin(lent);
     plain_mesh::route(&plain(case, map), s, d, &mut lent.out)
+}
+
+fn proved_table(case: &Case, lent: &mut Lent) -> u32 {
+    raw::route_batch(case.side, case.side, case.map(), &case.sends, &mut lent.answers, &mut lent.out, &mut lent.index)
+}
+
+fn plain_table(case: &Case, lent: &mut Lent) -> u32 {
+    plain_mesh::route_batch(&plain(case, case.map()), &case.sends, &mut lent.answers, &mut lent.out, &mut lent.index)
+}
+
+/// The table by single calls of the library.
+fn proved_singles(case: &Case, lent: &mut Lent) -> u32 {
+    let mut at = 0;
+    for (send, entry) in case.sends.chunks(4).zip(&mut lent.answers) {
+        *entry = raw::route(case.side, case.side, case.map(), (send[0], send[1]), (send[2], send[3]), &mut lent.out[at..]);
+        at += if *entry < REFUSED { *entry as usize } else { 0 };
+    }
+    lent.index[0] = at as u64;
+    0
 }
 
 /// Moves a packet by one hop, a fresh one if the last has arrived.
@@ -167,7 +192,8 @@ fn long_walk() -> Vec<u8> {
 }
 
 fn marking(map: Vec<u8>) -> Case {
-    Case { side: 64, maps: vec![map], trips: vec![[(0, 63); 2]], letters: vec![], calls: 1, sides: [proved_mark, plain_mark] }
+    let (trips, sides) = (vec![[(0, 63); 2]], [proved_mark as fn(&Case, &mut Lent) -> u32, plain_mark]);
+    Case { side: 64, maps: vec![map], trips, letters: vec![], sends: vec![], room: NODES + 8, calls: 1, sides }
 }
 
 /// The faults are in rows 61 and 62, out of the walk's way.
@@ -194,6 +220,13 @@ fn moving(rng: &mut Random) -> Case {
     Case { trips, calls, sides: [proved_move, plain_move], ..marking(map) }
 }
 
+/// A table of so many sends on one map, with room for all.
+fn table(rng: &mut Random, sends: usize, other: fn(&Case, &mut Lent) -> u32) -> Case {
+    let map = rng.map(200, 1);
+    let sends: Vec<u32> = (0..sends).flat_map(|_| rng.trip()).flat_map(|place| [place.0, place.1]).collect();
+    Case { room: 64 * (sends.len() / 4 + 64), sends, sides: [proved_table, other], ..marking(map) }
+}
+
 /// How many requests on one map: REQUESTS, or 2,000.
 fn requests() -> usize {
     std::env::var("REQUESTS").map_or(2000, |n| n.parse().unwrap())
@@ -217,6 +250,10 @@ fn find_case(name: &str) -> Case {
             routing(maps, (0..2000).map(|_| rng.trip()).collect())
         }
         "moving" => moving(&mut rng),
+        "table-300" => table(&mut rng, 300, plain_table),
+        "table-65000" => table(&mut rng, 65_000, plain_table),
+        "singles-300" => table(&mut rng, 300, proved_singles),
+        "singles-65000" => table(&mut rng, 65_000, proved_singles),
         _ => panic!("no case {}", name),
     }
 }
@@ -224,7 +261,7 @@ fn find_case(name: &str) -> Case {
 /// Makes every call on both sides and compares answers and all that was lent, with a margin that no call may touch. Answers what was done,
 /// and how many units of work it is.
 fn compare(name: &str, case: &Case) -> (String, u64) {
-    let mut lents = [Lent::new(), Lent::new()];
+    let mut lents = [Lent::new(case), Lent::new(case)];
     let (mut served, mut hops, mut last) = (0, 0, 0);
     for call in 0..case.calls {
         for lent in &mut lents {
@@ -250,6 +287,13 @@ fn compare(name: &str, case: &Case) -> (String, u64) {
             calls as u64,
         ),
         "many-maps" => (format!("route, {maps} maps, a request each: {served} served, {hops} hops, outputs equal"), calls as u64),
+        "table-300" | "table-65000" | "singles-300" | "singles-65000" => {
+            let (sends, hops) = (case.sends.len() / 4, lents[0].index[0]);
+            let served = lents[0].answers.iter().filter(|&&answer| answer < REFUSED).count();
+            let other = if name.starts_with("table") { "plain Rust" } else { "single calls" };
+            let done = format!("table of sends and {other}: {sends} sends on one map, {faults} faults, {served} served, {hops} hops, all equal");
+            (done, sends as u64)
+        }
         "moving" => (
             format!("move on, {trips} routes from source to arrival on one map, {faults} faults: {calls} calls, records equal"),
             calls as u64,
@@ -267,7 +311,7 @@ fn time(case: &Case) -> [u64; 2] {
     let mut best = [vec![u64::MAX; case.calls], vec![u64::MAX; case.calls]];
     let start = Instant::now();
     while start.elapsed() < Duration::from_secs(3) {
-        let mut lents = [Lent::new(), Lent::new()];
+        let mut lents = [Lent::new(case), Lent::new(case)];
         for first in (0..case.calls).step_by(1000) {
             for side in [0, 1] {
                 for best in best[side].iter_mut().skip(first).take(1000) {
@@ -286,7 +330,7 @@ fn main() {
     let case = find_case(&arguments[0]);
     if let [_, side, n] = &arguments[..] {
         let call = case.sides[if side == "proved" { 0 } else { 1 }];
-        let mut lent = Lent::new();
+        let mut lent = Lent::new(&case);
         for _ in 0..n.parse().unwrap() {
             black_box(call(black_box(&case), &mut lent));
         }
