@@ -6,6 +6,7 @@ use Prim.Native.Nat.{ℕ, zero, suc, _*_, _≤_}
 use native.Mathlib.Decide.{decLe}
 use native.Mathlib.Omega.{arith}
 use lib.ListN.{length, drop, length-append, length-drop}
+use Rattle.mesh.specs.declared.Heading.{Heading}
 use Rattle.mesh.specs.Headings.{letters}
 use Rattle.mesh.specs.Routing.{routeRefusal}
 use Rattle.mesh.proofs.Lists.{letters-length}
@@ -20,12 +21,15 @@ use Rattle.theory_batch.specs.Claims.{alone, needed}
 
 module _ (columns rows : ℕ) (faults : List ℕ) where
   module _ (x : Send) where
-    -- refusals 1 to 9, and what a call writes by its refusal
+    -- refusals 1 to 9, the hops, and what a call writes by its refusal
     abbrev request : ℕ
     request = requestRefusal columns rows faults (x .source) (x .destination)
 
+    abbrev hs : List Heading
+    hs = hops columns rows faults (x .source) (x .destination)
+
     abbrev text : ℕ → List ℕ
-    text k = unlessRefused k (letters (hops columns rows faults (x .source) (x .destination)))
+    text k = unlessRefused k (letters hs)
 
     module _ (free : List ℕ) where
       abbrev refusal : ℕ
@@ -41,9 +45,9 @@ module _ (columns rows : ℕ) (faults : List ℕ) where
       not-ten-same : (k : ℕ) → request ≡ k → refusal ≢ 10 → refusal ≡ k
       not-ten-same zero e not-ten =
           let clear = passed-9 columns rows faults (x .source) (x .destination) e in
-          by clear (decLe (length (hops columns rows faults (x .source) (x .destination))) (length free))
+          by clear (decLe (length hs) (length free))
         where
-          by : Clear columns rows faults (x .source) (x .destination) → Dec (length (hops columns rows faults (x .source) (x .destination)) ≤ length free) → refusal ≡ 0
+          by : Clear columns rows faults (x .source) (x .destination) → Dec (length hs ≤ length free) → refusal ≡ 0
           by clear (yes h) = room-none clear free h
           by clear (no h) = absurd (not-ten (short-ten clear free (omega arith)))
       not-ten-same (suc k) e not-ten = refused-before columns rows faults (x .source) (x .destination) free e

@@ -12,26 +12,26 @@ use Rattle.mesh.specs.Routing.{routeRefusal}
 use Rattle.mesh.proofs.Lists.{letters-length}
 use Rattle.theory_demands.proofs.Routes.{served-clear}
 use Rattle.theory_demands.proofs.Theorems.{routes-are-short}
-use Rattle.theory_demands.specs.Demand3.{hops}
 use Rattle.theory_batch.specs.declared.Send.{Send}
 use Rattle.theory_batch.specs.Batch.{Call, unlessRefused, call, routeCall, calls, answersOf, lettersOf}
 use Rattle.theory_batch.specs.Claims.{told, parts}
 
 -- its answer tells how many letters a call has written
-Tells : Call → Type 0
+abbrev Tells : Call → Type 0
 Tells c = told (answerCode (c .answer)) ≡ length (c .letters)
 
-call-tells : (k : ℕ) (hs : List Heading) → (k ≡ 0 → length hs < 65536) → told (answerCode (call k hs .answer)) ≡ length (call k hs .letters)
+call-tells : (k : ℕ) (hs : List Heading) → (k ≡ 0 → length hs < 65536) → Tells (call k hs)
 unfolding call told answer refusalCode unlessRefused
 call-tells zero hs short = rw (lt-ltb (length hs) 65536 (short refl)) (sym (letters-length hs))
 call-tells (suc k) hs short = rw (le-ltb (65536 + suc k) 65536 (omega arith))
 
 module _ (columns rows : ℕ) (faults : List ℕ) where
-  route-tells : (x : Send) (free : List ℕ) → told (answerCode (routeCall columns rows faults x free .answer)) ≡ length (routeCall columns rows faults x free .letters)
+  route-tells : (x : Send) (free : List ℕ) → Tells (routeCall columns rows faults x free)
   unfolding routeCall
   route-tells x free =
-      call-tells (routeRefusal columns rows faults (x .source) (x .destination) free) (hops columns rows faults (x .source) (x .destination))
-      (λ e. let short = routes-are-short columns rows faults (x .source) (x .destination) (served-clear columns rows faults (x .source) (x .destination) free e) in omega arith)
+      call-tells (routeRefusal columns rows faults (x .source) (x .destination) free) _
+      (λ e. let clear = served-clear columns rows faults (x .source) (x .destination) free e in
+      omega (arith, routes-are-short columns rows faults (x .source) (x .destination) clear))
 
   pub calls-parted : (xs : List Send) (out rest : List ℕ) →
       parts (answersOf (calls (routeCall columns rows faults) xs out)) (lettersOf (calls (routeCall columns rows faults) xs out) ++ rest) ≡

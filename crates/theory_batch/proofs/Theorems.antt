@@ -1,19 +1,18 @@
 -- What is shown of a table of sends. Each theorem is proved in the file that its proof cites. Assumes nothing.
-use mathlib.Core.Path.{_≡_, ap, _∙_}
+use mathlib.Core.Path.{_≡_, refl, ap, _∙_}
 use mathlib.Core.Logic.{_≢_}
 use mathlib.Core.List.{List, map}
-use Prim.Native.Nat.{ℕ, _*_, _≤_}
-use lib.ListN.{length, take}
-use lib.Seq.{take-at}
+use Prim.Native.Nat.{ℕ, suc, _*_, _≤_}
+use lib.ListN.{length, take, drop}
+use lib.Seq.{take-at, drop-at}
 use Rattle.mesh.specs.declared.Routed.{Routed}
-use Rattle.mesh.specs.Headings.{letters}
 use Rattle.mesh.specs.Numbers.{Answer, answer, written}
 use Rattle.mesh.specs.Routing.{routedAnswer, Routes}
 use Rattle.theory_walk.specs.Claims.{mostHops}
 use Rattle.theory_batch.specs.declared.Send.{Send}
 use Rattle.theory_batch.specs.declared.Batched.{Batched}
 use Rattle.theory_batch.specs.Sends.{sendsOf}
-use Rattle.theory_batch.specs.Batch.{call, routeCall, calls, answersOf, batch, batchRefusal, RoutesBatch}
+use Rattle.theory_batch.specs.Batch.{call, routeCall, calls, answersOf, lettersOf, batch, batchedAnswer, batchRefusal, RoutesBatch}
 use Rattle.theory_batch.specs.Claims.{alone, needed, Gives, parts}
 use Rattle.theory_batch.proofs.Calls.{written-unless, answers-length}
 use Rattle.theory_batch.proofs.Alone.{not-ten-alone, calls-alone, needed-most}
@@ -44,27 +43,46 @@ module _ (columns rows : ℕ) (faults : List ℕ) where
   pub room-always : (xs : List Send) → needed columns rows faults xs ≤ mostHops * length xs
   room-always = needed-most columns rows faults
 
-  -- Of the operation, where none of 1 to 5 and 18 applies:
-  module _ (sends answers out : List ℕ) (r : Batched) (answers′ out′ : List ℕ) (does : RoutesBatch columns rows faults sends answers out r answers′ out′)
-      (none : batchRefusal columns rows faults sends answers ≡ 0) where
-    -- the answer list begins with an answer for each send
-    pub each-answered : take (length (sendsOf sends)) answers′ ≡ answersOf (batch columns rows faults sends out)
-    unfolding written
-    each-answered =
-        let enters = rw none at (does .enters) in
-        rw enters (take-at (answersOf (batch columns rows faults sends out)) _ _ (answers-length (routeCall columns rows faults) (sendsOf sends) out))
+  -- Of the operation, which keeps its promise:
+  module _ (sends answers out : List ℕ) (r : Batched) (answers′ out′ : List ℕ) (does : RoutesBatch columns rows faults sends answers out r answers′ out′) where
+    -- where one of refusals 1 to 5 and 18 applies, the first that does is the answer, and nothing is altered
+    pub else-refused : {k : ℕ} → batchRefusal columns rows faults sends answers ≡ suc k →
+        (batchedAnswer r ≡ Answer.refused (suc k)) × (answers′ ≡ answers) × (out′ ≡ out)
+    unfolding answer written
+    else-refused e = (does .returns ∙ rw e, does .enters ∙ rw e, does .writes ∙ rw e)
 
-    -- and by these answers alone the output falls into the letters of each
-    pub each-part : parts (take (length (sendsOf sends)) answers′) out′ ≡ map (λ c. c .letters) (batch columns rows faults sends out)
-    unfolding written
-    each-part =
-        let writes = rw none at (does .writes) in
-        rw (each-answered, writes) (calls-parted columns rows faults (sendsOf sends) out _)
+    -- Where none applies:
+    module _ (none : batchRefusal columns rows faults sends answers ≡ 0) where
+      -- the answer list begins with an answer for each send
+      pub each-answered : take (length (sendsOf sends)) answers′ ≡ answersOf (batch columns rows faults sends out)
+      unfolding written
+      each-answered =
+          let enters = rw none at (does .enters) in
+          rw enters (take-at (answersOf (batch columns rows faults sends out)) _ _ (answers-length (routeCall columns rows faults) (sendsOf sends) out))
 
-    -- with room for all, answer and letters of each send are those of its call alone, wherever it stands
-    pub each-alone : needed columns rows faults (sendsOf sends) ≤ length out →
-        (take (length (sendsOf sends)) answers′ ≡ answersOf (map (alone columns rows faults) (sendsOf sends))) ×
-        (parts (take (length (sendsOf sends)) answers′) out′ ≡ map (λ c. c .letters) (map (alone columns rows faults) (sendsOf sends)))
-    each-alone room =
-        let same = room-for-all (sendsOf sends) out room in
-        (each-answered ∙ ap answersOf same, each-part ∙ ap (map (λ c. c .letters)) same)
+      -- by these answers alone the output falls into the letters of each
+      pub each-part : parts (take (length (sendsOf sends)) answers′) out′ ≡ map (λ c. c .letters) (batch columns rows faults sends out)
+      unfolding written
+      each-part =
+          let writes = rw none at (does .writes) in
+          rw (each-answered, writes) (calls-parted columns rows faults (sendsOf sends) out _)
+
+      -- entries after these answers, and bytes after the letters, are as they were
+      pub rest-untouched : (drop (length (sendsOf sends)) answers′ ≡ drop (length (sendsOf sends)) answers) ×
+          (drop (length (lettersOf (batch columns rows faults sends out))) out′ ≡ drop (length (lettersOf (batch columns rows faults sends out))) out)
+      unfolding written
+      rest-untouched =
+          let enters = rw none at (does .enters) in
+          let writes = rw none at (does .writes) in
+          let n = answers-length (routeCall columns rows faults) (sendsOf sends) out in (
+            rw enters (drop-at (answersOf (batch columns rows faults sends out)) _ _ n ∙ rw n),
+            rw writes (drop-at (lettersOf (batch columns rows faults sends out)) _ _ refl),
+          )
+
+      -- with room for all, answer and letters of each send are those of its call alone, wherever it stands
+      pub each-alone : needed columns rows faults (sendsOf sends) ≤ length out →
+          (take (length (sendsOf sends)) answers′ ≡ answersOf (map (alone columns rows faults) (sendsOf sends))) ×
+          (parts (take (length (sendsOf sends)) answers′) out′ ≡ map (λ c. c .letters) (map (alone columns rows faults) (sendsOf sends)))
+      each-alone room =
+          let same = room-for-all (sendsOf sends) out room in
+          (each-answered ∙ ap answersOf same, each-part ∙ ap (map (λ c. c .letters)) same)
