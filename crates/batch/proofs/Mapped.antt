@@ -1,10 +1,9 @@
 -- The cases of the operation: the map's refusals as they were told, 18, or the sends on the map's marking. Assumes nothing.
-use mathlib.Core.Path.{_≡_, sym, ap, _∙_}
+use mathlib.Core.Path.{_≡_, sym, _∙_}
 use mathlib.Core.Bool.{true, false, cond, _||_}
 use mathlib.Core.List.{List, [], _∷_}
-use Prim.Native.Nat.{ℕ, _/_, _≤_, _<_}
-use native.Mathlib.Omega.{arith}
-use borrow.Author.Tests.{lt-ltb, le-ltb}
+use Prim.Native.Nat.{ℕ, _/_, _≤_}
+use borrow.Author.Tests.{ltb-false}
 use lib.Dec.{ltb}
 use lib.ListN.{length, take}
 use Rattle.mesh.specs.declared.Refusal.{Refusal}
@@ -42,39 +41,39 @@ module _ (columns rows : ℕ) (map sends answers out : List ℕ) {x : Checked} {
       }
 
   module _ (e : x ≡ checks.Clear) where
-    only-list : batchRefusal columns rows map sends answers ≡ cond (uneven sends || ltb (length answers) (length (sendsOf sends))) 18 0
+    only-list : batchRefusal columns rows map sends answers ≡ cond (uneven sends || ltb (length answers) (length sends / 4)) 18 0
     unfolding batchRefusal first
-    only-list = marks-next columns rows map m e list
+    only-list = marks-next columns rows map m e list ∙ rw (sends-length sends)
 
-    not-sends : (uneven sends || ltb (length answers) (length (sendsOf sends))) ≡ true → RoutesBatch columns rows map sends answers out NotSends answers out
+    not-sends : batchRefusal columns rows map sends answers ≡ 18 → RoutesBatch columns rows map sends answers out NotSends answers out
     unfolding answer written
-    not-sends h =
-        let told = only-list ∙ ap (λ b. cond b 18 0) h in
-        record { returns = rw told; enters = rw told; writes = rw told }
+    not-sends told = record { returns = rw told; enters = rw told; writes = rw told }
 
     pub uneven-refused : uneven sends ≡ true → RoutesBatch columns rows map sends answers out NotSends answers out
-    uneven-refused h = not-sends (rw h)
+    uneven-refused h = not-sends (only-list ∙ rw h)
 
-    pub short-refused : uneven sends ≡ false → length answers < length sends / 4 → RoutesBatch columns rows map sends answers out NotSends answers out
-    short-refused h short =
-        not-sends (rw h (lt-ltb (length answers) (length (sendsOf sends)) (omega (arith, sends-length sends))))
+    pub short-refused : uneven sends ≡ false → ltb (length answers) (length sends / 4) ≡ true → RoutesBatch columns rows map sends answers out NotSends answers out
+    short-refused h short = not-sends (only-list ∙ rw (h, short))
 
     -- on the map's marking each call does what Route does on the map
     same-call : (y : Send) (free : List ℕ) → routeCall columns rows map y free ≡ routeCallOn (marked (mesh columns rows map)) y free
     unfolding routeCall routeCallOn routeRefusal
     same-call y free = rw (marks-next columns rows map m e (sendTests (marked (mesh columns rows map)) (y .source) (y .destination) free))
 
-    pub marked-batch : {n : ℕ} {answers′ out′ : List ℕ} → uneven sends ≡ false → length sends / 4 ≤ length answers →
+    pub marked-batch : {n : ℕ} {answers′ out′ : List ℕ} → uneven sends ≡ false → ltb (length answers) (length sends / 4) ≡ false →
         RoutesSends (routeCallOn (mesh columns rows (take (length map) marks))) sends answers out n answers′ out′ →
         RoutesBatch columns rows map sends answers out (Letters n) answers′ out′
     unfolding answer written
     marked-batch h enough r =
         let r′ = rw (m .marks e) at r in
-        let whole = le-ltb (length answers) (length (sendsOf sends)) (omega (arith, sends-length sends)) in
-        let none : batchRefusal columns rows map sends answers ≡ 0 = only-list ∙ rw (h, whole) in
+        let none : batchRefusal columns rows map sends answers ≡ 0 = only-list ∙ rw (h, enough) in
         let same = calls-agree (routeCall columns rows map) (routeCallOn (marked (mesh columns rows map))) same-call (sendsOf sends) out in
         record {
           returns = rw (none, same, r′ .counts);
           enters = rw (none, same) (r′ .enters);
           writes = rw (none, same) (r′ .writes);
         }
+
+-- an entry for each send
+pub entries-enough : (sends answers : List ℕ) → ltb (length answers) (length sends / 4) ≡ false → length (sendsOf sends) ≤ length answers
+entries-enough sends answers e = rw (sends-length sends) (ltb-false (length answers) (length sends / 4) e)

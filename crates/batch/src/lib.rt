@@ -59,10 +59,7 @@ pub fn route_batch(
     if let Checked::Refused(why) = checked {
         return Batched::Refused(why);
     }
-    if is_uneven(sends) {
-        return Batched::NotSends;
-    }
-    if answers.len() < sends.len() / 4 {
+    if is_uneven(sends) || answers.len() < sends.len() / 4 {
         return Batched::NotSends;
     }
     let n = route_sends(columns, rows, &marks[..map.len()], sends, answers, out);

@@ -1,11 +1,11 @@
 -- The map's refusals are as they were told, then 18; else what is done is what is done on the map's marking. Assumes nothing.
 use borrow.Author.Needs.{needs}
 use mathlib.Core.Path.{sym, _∙_}
+use mathlib.Core.Logic.{⊎-elim}
 use native.Mathlib.Omega.{arith}
 use lib.Seq.{length-take-le}
-use Rattle.theory_batch.proofs.Sends.{sends-length}
 use Rattle.marking.proofs.Marks.{marks-few, marking}
-use Rattle.batch.proofs.Mapped.{map-refused, uneven-refused, short-refused, marked-batch}
+use Rattle.batch.proofs.Mapped.{map-refused, uneven-refused, short-refused, marked-batch, entries-enough}
 use Rattle.batch.proofs.route_batch.Statement.{statement}
 use Rattle.batch.proofs.route_batch.Tie as tie
 
@@ -33,15 +33,10 @@ returns-2 : tie.Need-returns-2
 returns-2 c =
     let at-clear = c .before .before in
     let at-marks = at-clear .before .before .before in
-    uneven-refused _ _ _ _ _ _ (at-marks .mark-map .ensures) (at-clear .enum-told .given .1) (sym (c .before .is-uneven .ensures) ∙ c .if1 .taken)
-
-returns-3 : tie.Need-returns-3
-returns-3 c =
-    let whole = c .before in
-    let at-clear = whole .before .before in
-    let at-marks = at-clear .before .before .before in
-    short-refused _ _ _ _ _ _ (at-marks .mark-map .ensures) (at-clear .enum-told .given .1)
-    (sym (whole .before .is-uneven .ensures) ∙ whole .if1 .left) (c .if2 .taken)
+    let is-uneven = c .before .is-uneven .ensures in
+    let told = at-clear .enum-told .given .1 in
+    ⊎-elim (λ t. uneven-refused _ _ _ _ _ _ (at-marks .mark-map .ensures) told (sym is-uneven ∙ t .taken))
+    (λ p. short-refused _ _ _ _ _ _ (at-marks .mark-map .ensures) told (sym is-uneven ∙ p .0 .left) (p .1 .taken)) (c .if1 .came)
 
 array-share-prefix-marks : tie.Need-array-share-prefix-marks
 array-share-prefix-marks c =
@@ -62,10 +57,10 @@ route-sends-requires c κs =
     let whole = enough .before in
     let at-clear = whole .before .before in
     let at-marks = at-clear .before .before .before in
-    let at-start = at-marks .before .before .before .before .before .before in (
+    let given = at-marks .before .before .before .before .before .before .args in (
       marking _ _ _ (at-marks .mark-map .ensures) (at-clear .enum-told .given .1),
       sym (whole .before .is-uneven .ensures) ∙ whole .if1 .left,
-      omega (arith, sends-length (at-start .args .sends .now), enough .if2 .left),
+      entries-enough (given .sends .now) (given .answers .now) (enough .if2 .left),
     )
 
 same-length : tie.Need-same-length
@@ -74,8 +69,8 @@ same-length c = search needs
 same-length-2 : tie.Need-same-length-2
 same-length-2 c = search needs
 
-returns-4 : tie.Need-returns-4
-returns-4 c =
+returns-3 : tie.Need-returns-3
+returns-3 c =
     let routed = c .before .before .before .before in
     let enough = routed .before .before .before .before in
     let whole = enough .before in
@@ -95,10 +90,9 @@ route-batch-spec =
     enum-told
     is-uneven-requires
     returns-2
-    returns-3
     array-share-prefix-marks
     slice-aggregate-route-sends
     route-sends-requires
     same-length
     same-length-2
-    returns-4)
+    returns-3)

@@ -51,7 +51,8 @@ add-at c =
     let at-send = at-code .before .before .before in
     let at-numbers = at-send .before .before in
     let turn = at-numbers .before .before in
-    let t = sending-more (turn .loop .inv .1) (omega arith) (at-numbers .send-at .ensures) (at-send .route-send .ensures) (at-code .routed-code .ensures) (c .wrote .ensures) in
+    let t = sending-more (turn .loop .inv .1) (omega arith) (at-numbers .send-at .ensures) (at-send .route-send .ensures)
+    (at-code .routed-code .ensures) (c .wrote .ensures) in
     let at-start = turn .before .before .before .before .before in
     omega (arith, t .within, t .out-size, at-start .good .1 .1 .1 .1 .1 .0)
 
@@ -68,7 +69,8 @@ loop-again c =
     let at-numbers = at-send .before .before in
     let turn = at-numbers .before .before in (
       omega arith,
-      sending-more (turn .loop .inv .1) (omega arith) (at-numbers .send-at .ensures) (at-send .route-send .ensures) (at-code .routed-code .ensures) (c .wrote .ensures),
+      sending-more (turn .loop .inv .1) (omega arith) (at-numbers .send-at .ensures) (at-send .route-send .ensures)
+          (at-code .routed-code .ensures) (c .wrote .ensures),
     )
 
 same-length : tie.Need-same-length Inv-loop μ-loop
