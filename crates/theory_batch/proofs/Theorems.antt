@@ -1,22 +1,23 @@
 -- What is shown of a table of sends. Each theorem is proved in the file that its proof cites. Assumes nothing.
-use mathlib.Core.Path.{_≡_, refl, ap, _∙_}
+use mathlib.Core.Path.{_≡_, refl, sym, ap, _∙_}
 use mathlib.Core.Logic.{_≢_}
-use mathlib.Core.List.{List, map}
-use Prim.Native.Nat.{ℕ, suc, _*_, _≤_}
-use lib.ListN.{length, take, drop}
-use lib.Seq.{take-at, drop-at}
+use mathlib.Core.List.{List, [], _∷_, _++_, map}
+use Prim.Native.Nat.{ℕ, suc, _*_, _≤_, _<_}
+use native.Mathlib.Omega.{arith}
+use lib.ListN.{length, getD, take, drop, length-append}
+use lib.Seq.{take-at, drop-at, getD-take}
 use Rattle.mesh.specs.declared.Routed.{Routed}
-use Rattle.mesh.specs.Numbers.{Answer, answer, written}
+use Rattle.mesh.specs.Numbers.{Answer, answer, answerCode, written}
 use Rattle.mesh.specs.Routing.{routedAnswer, Routes}
 use Rattle.theory_walk.specs.Claims.{mostHops}
 use Rattle.theory_batch.specs.declared.Send.{Send}
 use Rattle.theory_batch.specs.declared.Batched.{Batched}
 use Rattle.theory_batch.specs.Sends.{sendsOf}
 use Rattle.theory_batch.specs.Batch.{call, routeCall, calls, answersOf, lettersOf, batch, batchedAnswer, batchRefusal, RoutesBatch}
-use Rattle.theory_batch.specs.Claims.{alone, needed, Gives, parts}
+use Rattle.theory_batch.specs.Claims.{alone, needed, Gives, told, parts}
 use Rattle.theory_batch.proofs.Calls.{written-unless, answers-length}
 use Rattle.theory_batch.proofs.Alone.{not-ten-alone, calls-alone, needed-most}
-use Rattle.theory_batch.proofs.Parts.{calls-parted}
+use Rattle.theory_batch.proofs.Parts.{alone-front, calls-parted, at-send}
 
 module _ (columns rows : ℕ) (faults : List ℕ) where
   -- Of a single call of Route, which keeps its promise `Routes`:
@@ -86,3 +87,21 @@ module _ (columns rows : ℕ) (faults : List ℕ) where
       each-alone room =
           let same = room-for-all (sendsOf sends) out room in
           (each-answered ∙ ap answersOf same, each-part ∙ ap (map (λ c. c .letters)) same)
+
+      -- that is, of a send x anywhere in the table: its answer and its part of the output are what any single call of Route that isn't refused 10
+      -- answers and writes for it
+      pub each-as-single : needed columns rows faults (sendsOf sends) ≤ length out →
+          (before : List Send) (x : Send) (after : List Send) → sendsOf sends ≡ before ++ (x ∷ after) →
+          (own : List ℕ) (s : Routed) (own′ : List ℕ) → Routes columns rows faults (x .source) (x .destination) own s own′ →
+          routedAnswer s ≢ Answer.refused 10 →
+          (getD answers′ (length before) 0 ≡ answerCode (routedAnswer s)) ×
+          (getD (parts (take (length (sendsOf sends)) answers′) out′) (length before) [] ≡ take (told (answerCode (routedAnswer s))) own′)
+      unfolding answersOf
+      each-as-single room before x after here own s own′ single not-ten =
+          let (answered, parted) = each-alone room in
+          let gives = alone-is-route x own s own′ single not-ten in
+          let index : length before < length (sendsOf sends) = rw here (omega (arith, length-append before (x ∷ after))) in (
+            sym (getD-take (length (sendsOf sends)) answers′ (length before) 0 index) ∙
+                rw (answered, here, gives .answers) (at-send (λ c. answerCode (c .answer)) (alone columns rows faults) before x after 0),
+            rw (alone-front columns rows faults x gives, parted, here) (at-send (λ c. c .letters) (alone columns rows faults) before x after []),
+          )

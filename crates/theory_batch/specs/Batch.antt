@@ -69,11 +69,11 @@ batchedAnswer NotSends = refused 18
 
 -- refusals 1 to 5; 18 the list isn't whole sends, or the answer list has fewer entries than sends
 unfoldable pub batchRefusal : ℕ → ℕ → List ℕ → List ℕ → List ℕ → ℕ
-batchRefusal columns rows map sends answers =
-    first (mapTests columns rows map ++ ((uneven sends || ltb (length answers) (length (sendsOf sends))) gives 18 ∷ []))
+batchRefusal columns rows faults sends answers =
+    first (mapTests columns rows faults ++ ((uneven sends || ltb (length answers) (length (sendsOf sends))) gives 18 ∷ []))
 
 -- it returns the number of letters, writes the answers into the answer list and the letters into the output
-pub record RoutesBatch (columns rows : ℕ) (map sends answers out : List ℕ) (r : Batched) (answers′ out′ : List ℕ) : Type 0 where
-  pub returns : batchedAnswer r ≡ answer (batchRefusal columns rows map sends answers) (length (lettersOf (batch columns rows map sends out)))
-  pub enters : answers′ ≡ written (batchRefusal columns rows map sends answers) (answersOf (batch columns rows map sends out)) answers
-  pub writes : out′ ≡ written (batchRefusal columns rows map sends answers) (lettersOf (batch columns rows map sends out)) out
+pub record RoutesBatch (columns rows : ℕ) (faults sends answers out : List ℕ) (r : Batched) (answers′ out′ : List ℕ) : Type 0 where
+  pub returns : batchedAnswer r ≡ answer (batchRefusal columns rows faults sends answers) (length (lettersOf (batch columns rows faults sends out)))
+  pub enters : answers′ ≡ written (batchRefusal columns rows faults sends answers) (answersOf (batch columns rows faults sends out)) answers
+  pub writes : out′ ≡ written (batchRefusal columns rows faults sends answers) (lettersOf (batch columns rows faults sends out)) out
