@@ -45,7 +45,11 @@ int main(void) {
     const uint32_t sends[] = {1, 5, 6, 5, 3, 0, 3, 9, 3, 9, 3, 8};
     uint32_t answers[3];
     uint64_t count[1];
-    pinduguil_route_batch(COLUMNS, ROWS, map, sizeof map, sends, 12, answers, 3, letters, 12, count, 1);
+    uint32_t no = pinduguil_route_batch(COLUMNS, ROWS, map, sizeof map, sends, 12, answers, 3, letters, 12, count, 1);
+    if (no != 0) {
+        printf("no %u\n", (unsigned)no);
+        return 1;
+    }
     printf("table of %llu letters: ", (unsigned long long)count[0]);
     const uint8_t *next = letters;
     for (int i = 0; i < 3; i++) {

@@ -146,7 +146,7 @@ pub enum Judged {
 }
 
 /// The answers of a table in the order of its sends: the letters of each, as a part of the output, or its refusal, 6 to 10.
-#[derive(Clone, Copy, Debug)]
+#[derive(Clone, Debug)]
 pub struct Batch<'a> {
     answers: &'a [u32],
     letters: &'a [u8],

@@ -104,7 +104,8 @@ impl Batch {
     pub fn report(&self) -> bool {
         println!("table of sends: answered, refusals 1 to 18: {:?}", self.answers);
         println!("    sends: served, refusals 1 to 10: {:?}; {} served after one without room", self.sends, self.after);
-        println!("    {} tables without sends; {} letters at most; null for map, sends, answers, output, letters: {:?}", self.empty, self.most, self.nulls);
+        println!("    {} tables without sends; {} letters at most", self.empty, self.most);
+        println!("    null for map, sends, answers, output, letters: {:?}", self.nulls);
         let whole = met(&self.answers, [0, 1, 2, 3, 4, 5, 18]) && met(&self.sends, [0, 6, 7, 8, 9, 10]);
         whole && self.after > 0 && self.empty > 0 && self.most > 65_535 && met(&self.nulls, 0..5)
     }

@@ -53,7 +53,7 @@ module _ (columns rows : ℕ) (faults : List ℕ) where
       not-ten-same (suc k) e not-ten = refused-before columns rows faults (x .source) (x .destination) free e
 
       -- where the letters fit, and where the call isn't refused 10
-      pub fits-alone : length (alone columns rows faults x .letters) ≤ length free → routeCall columns rows faults x free ≡ alone columns rows faults x
+      fits-alone : length (alone columns rows faults x .letters) ≤ length free → routeCall columns rows faults x free ≡ alone columns rows faults x
       unfolding alone routeCall call
       fits-alone h = rw (fits-same request refl h)
 
