@@ -55,5 +55,24 @@ int main(void) {
     show("move on, no map", pinduguil_move_on(COLUMNS, ROWS, NULL, 0, packet, 5));
     show("move on, no record", pinduguil_move_on(COLUMNS, ROWS, map, sizeof map, NULL, 0));
     show("move on, neither", pinduguil_move_on(COLUMNS, ROWS, NULL, 0, NULL, 0));
+
+    uint64_t written[1] = {9};
+    show("letters to legs, no output", pinduguil_letters_to_legs(letters, sizeof letters, NULL, 0, written, 1));
+    printf("written %u\n", (unsigned)written[0]);
+    show("letters to legs, no letters", pinduguil_letters_to_legs(NULL, 0, out, sizeof out, written, 1));
+    printf("written %u, byte %u\n", (unsigned)written[0], (unsigned)out[0]);
+    show("letters to legs, no count", pinduguil_letters_to_legs(letters, sizeof letters, out, sizeof out, NULL, 0));
+    printf("bytes %u %u\n", (unsigned)out[0], (unsigned)out[1]);
+    show("letters to legs, none of them", pinduguil_letters_to_legs(NULL, 0, NULL, 0, NULL, 0));
+
+    const uint8_t file[] = {1, 4}, no_legs[] = {0};
+    show("legs to letters, no file", pinduguil_legs_to_letters(NULL, 0, out, sizeof out, written, 1));
+    show("legs to letters, no output", pinduguil_legs_to_letters(file, sizeof file, NULL, 0, written, 1));
+    printf("written %u\n", (unsigned)written[0]);
+    show("legs to letters, no output, no legs", pinduguil_legs_to_letters(no_legs, sizeof no_legs, NULL, 0, written, 1));
+    printf("written %u\n", (unsigned)written[0]);
+    show("legs to letters, no count", pinduguil_legs_to_letters(file, sizeof file, out, sizeof out, NULL, 0));
+    printf("letters %.2s\n", (const char *)out);
+    show("legs to letters, none of them", pinduguil_legs_to_letters(NULL, 0, NULL, 0, NULL, 0));
     return 0;
 }

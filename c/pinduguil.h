@@ -5,7 +5,7 @@
  *
  * A slice is a pointer and then the number of its elements. Where the number is 0 the pointer may be NULL: nothing is read or written
  * through it. An output overlaps nothing else that is handed over. All other arguments may be anything: what is wrong is refused by its
- * number. Maps, sends and hand-ins are only read.
+ * number. Maps, sends, hand-ins letters and files are only read.
  *
  * Refusals, in the order in which they are tested:
  *   1 columns not 1 to 64            6 source or destination off the mesh
@@ -15,6 +15,12 @@
  *   5 a fault where none is allowed  10 the output is too short
  * A table of sends as a whole is refused by 1 to 5, then by
  *   18 the list isn't whole sends, or there are fewer entries for answers than sends
+ * Letters to legs are refused by 11, then 23, then 10; legs to letters by the first of 19 to 21 that is met from the file's front, then 22,
+ * then 10:
+ *   11 a byte that is no letter      21 a leg in its forerunner's direction
+ *   19 the file is cut short         22 bytes left over after the last leg
+ *   20 a number over 65,535,         23 a leg of over 16,384 letters,
+ *      or with a group too many         or over 65,535 legs
  */
 #ifndef PINDUGUIL_H
 #define PINDUGUIL_H
@@ -40,6 +46,13 @@
 #define PINDUGUIL_BREAKS_RULE_2 17u
 #define PINDUGUIL_ENTERS_BLOCK 15u
 #define PINDUGUIL_NOT_ARRIVED 16u
+
+/* What is wrong with a file of legs, or with letters that should become one; for these also PINDUGUIL_NO_LETTER. */
+#define PINDUGUIL_CUT_SHORT 19u
+#define PINDUGUIL_BAD_NUMBER 20u
+#define PINDUGUIL_SAME_DIRECTION 21u
+#define PINDUGUIL_LEFT_OVER 22u
+#define PINDUGUIL_TOO_LONG 23u
 
 #ifdef __cplusplus
 extern "C" {
@@ -81,6 +94,23 @@ uint32_t pinduguil_judge(uint32_t columns, uint32_t rows, const uint8_t *map, si
  * last hop of 0 to 4, the answer is PINDUGUIL_REFUSED, whatever else is wrong. Where no letter is answered the record is left alone. */
 uint32_t pinduguil_move_on(uint32_t columns, uint32_t rows, const uint8_t *map, size_t map_length,
                            uint32_t *packet, size_t packet_length);
+
+/* Letters to legs: writes the file of a route's straight legs. A file is numbers in groups of seven bits, lowest group first, the top bit set
+ * on all groups but a number's last, and never a group more than needed. First the number of legs, then each leg as (length - 1) * 4 plus its
+ * direction's code: 0 E, 1 N, 2 W, 3 S. Neighbouring legs differ in direction, and no number exceeds 65,535. The file of no letters is one
+ * byte, 0. The file of n letters has at most n + 3 bytes: an output of that many always has room.
+ * Answers 0, and the number of bytes is written to written[0] if there is room for it; or 11, 23 or 10, and then nothing is written. A byte
+ * that is no letter is looked for in all letters first. Bytes of out after the file and numbers of written beyond the first are left alone. */
+uint32_t pinduguil_letters_to_legs(const uint8_t *letters, size_t letters_length, uint8_t *out, size_t out_length,
+                                   uint64_t *written, size_t written_length);
+
+/* Legs to letters: writes the letters of such a file. They needn't be a route: a leg may lead back over the one before it. A leg has at most
+ * 16,384 letters: an output of that many for each leg always has room, and one of PINDUGUIL_MOST_HOPS for the file of a route.
+ * Answers 0, and the number of letters is written to written[0] if there is room for it; or 19 to 22 or 10, and then nothing is written. At
+ * one number 19 and 20 come before 21, and a third group with its top bit set is refused by 20 there, even at the file's end. An empty file is
+ * cut short. Bytes of out after the letters and numbers of written beyond the first are left alone. */
+uint32_t pinduguil_legs_to_letters(const uint8_t *file, size_t file_length, uint8_t *out, size_t out_length,
+                                   uint64_t *written, size_t written_length);
 
 #ifdef __cplusplus
 }

@@ -1,8 +1,17 @@
-//! Loads a map, marks it, routes a packet, judges the route and moves the packet along it; routes a table of sends, with room for all and
-//! without; then what bad requests and hand-ins are answered.
+//! Loads a map, marks it, routes a packet, judges the route, writes its file of legs and reads it back, and moves the packet along it; routes a
+//! table of sends, with room for all and without; then what bad requests, hand-ins and files are answered.
 //!   c/library && rustc -O rust/loader.rs -L target/staticlib -l static=pinduguil -o loader && ./loader
 mod wrapper;
-use wrapper::{Mesh, Moved, Packet, Place, MOST_HOPS};
+use wrapper::{legs_to_letters, letters_to_legs, Mesh, Moved, Packet, Place, Refusal, MOST_HOPS};
+
+/// A route's file, and the letters that are read from it.
+fn show_file(letters: &[u8]) -> Result<(), Refusal> {
+    let (mut file, mut out) = (vec![0; letters.len() + 3], vec![0; MOST_HOPS]);
+    let file = letters_to_legs(letters, &mut file)?;
+    println!("file {file:02x?}");
+    println!("letters {}", String::from_utf8_lossy(legs_to_letters(file, &mut out)?));
+    Ok(())
+}
 
 fn main() {
     let (columns, rows) = (10, 8);
@@ -21,6 +30,9 @@ fn main() {
         Ok(letters) => {
             println!("ok {} {}", letters.len(), String::from_utf8_lossy(letters));
             println!("{:?}", mesh.judge(source, destination, letters));
+            if let Err(why) = show_file(letters) {
+                println!("no {}", why.0);
+            }
         }
     }
 
@@ -53,5 +65,9 @@ fn main() {
     println!("{:?}", mesh.judge(source, destination, b"NX"));
     for letters in [b"EN", b"ES", b"NW"] {
         println!("{}: {:?}", String::from_utf8_lossy(letters), mesh.judge(source, destination, letters));
+    }
+    println!("{:?}", letters_to_legs(b"NX", &mut out));
+    for file in [&[2, 0][..], &[1, 128, 0], &[2, 0, 4], &[1, 0, 0]] {
+        println!("file {file:02x?}: {:?}", legs_to_letters(file, &mut out));
     }
 }

@@ -5,8 +5,8 @@
 /// No route has more hops: an output of this many bytes has room for every route.
 pub const MOST_HOPS: usize = 4034;
 
-/// The functions of the library as they are: an answer of 65,536 or more is that plus a refusal. `judge` and `route_batch` answer 0 or what
-/// is wrong.
+/// The functions of the library as they are: an answer of 65,536 or more is that plus a refusal. `judge`, `route_batch`, `letters_to_legs` and
+/// `legs_to_letters` answer 0 or what is wrong.
 pub mod raw {
     pub mod library {
         extern "C" {
@@ -24,6 +24,12 @@ pub mod raw {
                 letters: *const u8, letters_length: usize, index: *mut u64, index_length: usize,
             ) -> u32;
             pub fn pinduguil_move_on(columns: u32, rows: u32, map: *const u8, map_length: usize, packet: *mut u32, packet_length: usize) -> u32;
+            pub fn pinduguil_letters_to_legs(
+                letters: *const u8, letters_length: usize, out: *mut u8, out_length: usize, written: *mut u64, written_length: usize,
+            ) -> u32;
+            pub fn pinduguil_legs_to_letters(
+                file: *const u8, file_length: usize, out: *mut u8, out_length: usize, written: *mut u64, written_length: usize,
+            ) -> u32;
         }
     }
 
@@ -66,9 +72,19 @@ pub mod raw {
     pub fn move_on(columns: u32, rows: u32, map: &[u8], packet: &mut [u32]) -> u32 {
         unsafe { library::pinduguil_move_on(columns, rows, map.as_ptr(), map.len(), packet.as_mut_ptr(), packet.len()) }
     }
+
+    pub fn letters_to_legs(letters: &[u8], out: &mut [u8], written: &mut [u64]) -> u32 {
+        let (l, o, w) = (letters.len(), out.len(), written.len());
+        unsafe { library::pinduguil_letters_to_legs(letters.as_ptr(), l, out.as_mut_ptr(), o, written.as_mut_ptr(), w) }
+    }
+
+    pub fn legs_to_letters(file: &[u8], out: &mut [u8], written: &mut [u64]) -> u32 {
+        let (f, o, w) = (file.len(), out.len(), written.len());
+        unsafe { library::pinduguil_legs_to_letters(file.as_ptr(), f, out.as_mut_ptr(), o, written.as_mut_ptr(), w) }
+    }
 }
 
-/// The number of a refusal, 1 to 10; 18 of a table of sends.
+/// The number of a refusal, 1 to 10; 18 of a table of sends, 11 and 19 to 23 of letters and legs.
 #[derive(Clone, Copy, Debug, PartialEq, Eq)]
 pub struct Refusal(pub u32);
 
@@ -237,5 +253,25 @@ impl Mesh<'_> {
                 Moved::Letter(letter as u8)
             }
         }
+    }
+}
+
+/// Writes the file of the letters' straight legs to the start of `out`, and answers it. The file of n letters has at most n + 3 bytes.
+/// Refused: 11, 23, 10.
+pub fn letters_to_legs<'o>(letters: &[u8], out: &'o mut [u8]) -> Result<&'o [u8], Refusal> {
+    written_part(out, |out, written| raw::letters_to_legs(letters, out, written))
+}
+
+/// Writes the letters of such a file to the start of `out`, and answers them. A leg has at most 16,384 letters. Refused: 19 to 22, 10.
+pub fn legs_to_letters<'o>(file: &[u8], out: &'o mut [u8]) -> Result<&'o [u8], Refusal> {
+    written_part(out, |out, written| raw::legs_to_letters(file, out, written))
+}
+
+/// The part of `out` that a call has written.
+fn written_part<'o>(out: &'o mut [u8], call: impl FnOnce(&mut [u8], &mut [u64]) -> u32) -> Result<&'o [u8], Refusal> {
+    let mut written = [0];
+    match call(out, &mut written) {
+        0 => Ok(&out[..written[0] as usize]),
+        number => Err(Refusal(number)),
     }
 }

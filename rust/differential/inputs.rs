@@ -2,6 +2,7 @@
 use crate::lent::Input;
 use crate::plain_mesh::{Block, Checked, Mesh, Place};
 use crate::random::Random;
+use std::fmt;
 
 /// A mesh and its map, and what the plain mesh makes of it.
 pub struct Case {
@@ -10,6 +11,12 @@ pub struct Case {
     pub map: Input<u8>,
     pub mesh: Checked,
     pub blocks: Vec<Block>,
+}
+
+impl fmt::Debug for Case {
+    fn fmt(&self, f: &mut fmt::Formatter) -> fmt::Result {
+        write!(f, "columns {} rows {} map {:?}", self.columns, self.rows, self.map.given())
+    }
 }
 
 impl Case {

@@ -1,5 +1,4 @@
 //! What is lent to the library, between margins that no call may touch, and how it is compared afterwards.
-use crate::inputs::Case;
 use std::fmt::Debug;
 use std::hint::black_box;
 use std::ptr;
@@ -48,7 +47,7 @@ impl<T: PartialEq + Debug> Lent for Input<T> {
     }
 }
 
-/// What the library may write to, and a copy that the plain mesh writes to. Both must hold the same afterwards, margins included.
+/// What the library may write to, and a copy that the plain code writes to. Both must hold the same afterwards, margins included.
 #[derive(Debug)]
 pub struct Output<T> {
     lent: Vec<T>,
@@ -103,8 +102,8 @@ pub fn start_mut<T>(xs: &mut [T]) -> *mut T {
 }
 
 /// Prints the case and ends the test.
-pub fn differs(what: &str, case: &Case, detail: String) -> ! {
-    println!("DIFFERENCE in {what}: columns {} rows {} map {:?}", case.columns, case.rows, case.map.given());
+pub fn differs(what: &str, case: &dyn Debug, detail: String) -> ! {
+    println!("DIFFERENCE in {what}: {case:?}");
     println!("{detail}");
     std::process::exit(1)
 }
@@ -127,9 +126,9 @@ impl Compared {
         as_c
     }
 
-    /// Compares the answers of the library and of the plain mesh, what was written and what was only read.
+    /// Compares the answers of the library and of the plain code, what was written and what was only read.
     pub fn request(
-        &mut self, what: &str, case: &Case, inputs: &[&dyn Lent], outputs: &[&dyn Lent], answers: [u32; 2], detail: impl Fn() -> String,
+        &mut self, what: &str, case: &dyn Debug, inputs: &[&dyn Lent], outputs: &[&dyn Lent], answers: [u32; 2], detail: impl Fn() -> String,
     ) {
         self.requests += 1;
         self.inputs += inputs.iter().map(|lent| lent.size()).sum::<u64>();

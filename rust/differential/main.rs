@@ -1,13 +1,16 @@
-//! The proved library against rust/plain_mesh.rs on random requests: answers, every byte of an output or a record and beside it, and that
-//! maps, sends and hand-ins are as they were. Prints counts; at the first difference it prints the case and exits with status 1. Each operation
-//! has a file of its own.
+//! The proved library against rust/plain_mesh.rs and rust/plain_legs.rs on random requests: answers, every byte of an output or a record and
+//! beside it, and that maps, sends, hand-ins, letters and files are as they were. Prints counts; at the first difference it prints the case and
+//! exits with status 1. Each operation has a file of its own.
 //!   c/library && rustc -O rust/differential/main.rs -L target/staticlib -l static=pinduguil -o differential && ./differential
 mod batch;
 mod inputs;
 mod judging;
+mod legs;
 mod lent;
 mod marking;
 mod moving;
+#[path = "../plain_legs.rs"]
+mod plain_legs;
 #[path = "../plain_mesh.rs"]
 mod plain_mesh;
 mod random;
@@ -25,6 +28,7 @@ struct Tests {
     batch: batch::Batch,
     judging: judging::Judging,
     moving: moving::Moving,
+    legs: legs::Legs,
 }
 
 impl Tests {
@@ -58,7 +62,7 @@ impl Tests {
         let lent::Compared { inputs, outputs, .. } = self.compared;
         println!("{outputs} bytes of outputs and {inputs} of inputs compared");
         let met = [self.marking.report(), self.routing.report(), self.batch.report(), self.judging.report(), self.moving.report()];
-        met.iter().all(|&met| met)
+        met.iter().all(|&met| met) & self.legs.report()
     }
 }
 
@@ -91,8 +95,11 @@ fn main() {
         let case = Case::random(&mut rng, columns, rows);
         tests.check(&mut rng, &case, 8);
     }
+    let meshes = tests.compared.requests;
+    tests.legs.check(&mut rng, &mut tests.compared);
     let all = tests.compared.requests;
-    println!("{all} requests, no difference: {sizes} over every size, {largest} on 64 x 64, the others on small meshes");
+    let (small, legs) = (meshes - largest - sizes, all - meshes);
+    println!("{all} requests, no difference: {sizes} over every size, {largest} on 64 x 64, {small} on small meshes, {legs} of legs and letters");
     if !tests.report() {
         println!("an answer or a null pointer was never met");
         std::process::exit(1);

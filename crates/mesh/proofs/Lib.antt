@@ -1,4 +1,5 @@
 pub mod Bools
+pub mod Headings
 pub mod Lists
 pub mod Index
 pub mod Parity

@@ -1,7 +1,7 @@
--- The four ways of a hop, their letters and their codes (document 01, "Mesh and letters"). Assumes nothing.
-use mathlib.Core.Bool.{Bool, cond}
+-- The four ways of a hop, their letters and their numbers (document 01, "Mesh and letters"), their codes (document 02, E3). Assumes nothing.
+use mathlib.Core.Bool.{Bool, false, cond}
 use mathlib.Core.List.{List, [], _∷_}
-use Prim.Native.Nat.{ℕ, _+_, _-_}
+use Prim.Native.Nat.{ℕ, zero, suc, _+_, _-_}
 use lib.Dec.{eqb}
 use Rattle.mesh.specs.declared.Letter.{Letter}
 use Rattle.mesh.specs.declared.Letter.the-variants.{Hop, Other}
@@ -45,6 +45,11 @@ letters (h ∷ hs) = letter h ∷ letters hs
 unfoldable pub same : Heading → Heading → Bool
 same g h = eqb (letter g) (letter h)
 
+-- the last hop was that way
+unfoldable pub lastIs : Last → Heading → Bool
+lastIs none h = false
+lastIs (made g) h = same g h
+
 -- the hop that a byte names
 unfoldable pub named : ℕ → Letter
 named x =
@@ -66,3 +71,17 @@ lastNumber (made h) = headingNumber h
 unfoldable pub lastOf : ℕ → Last
 lastOf n =
     cond (eqb n 1) (made E) (cond (eqb n 2) (made N) (cond (eqb n 3) (made S) (cond (eqb n 4) (made W) none)))
+
+-- the code of a direction: 0 E, 1 N, 2 W, 3 S
+abbrev pub code : Heading → ℕ
+code E = 0
+code N = 1
+code W = 2
+code S = 3
+
+-- the direction of a code
+unfoldable pub direction : ℕ → Heading
+direction zero = E
+direction (suc zero) = N
+direction (suc (suc zero)) = W
+direction (suc (suc (suc k))) = S

@@ -9,11 +9,11 @@ use Rattle.mesh.specs.declared.Heading.{Heading}
 use Rattle.mesh.specs.declared.Heading.the-variants.{East as E, North as N, South as S, West as W}
 use Rattle.mesh.specs.declared.Last.{Last}
 use Rattle.mesh.specs.declared.Last.the-variants.{None as none, Made as made}
-use Rattle.mesh.specs.Headings.{letter, same}
+use Rattle.mesh.specs.Headings.{same, lastIs}
 use Rattle.mesh.specs.Nodes.{ahead}
 use Rattle.mesh.specs.Rules.{Trip, blocked, side, toward, own, stopped, again, leaving, across, nearing, otherRow}
 use Rattle.mesh.proofs.Bools.{true-false, value}
-use Rattle.rules.specs.Rows.{lastIs}
+use Rattle.mesh.proofs.Headings.{same-self, same-heading}
 
 -- at a stop
 pub again-south : {l : Last} (h : Heading) {x : Bool} → l ≡ made h → x ≡ same h S → x ≡ true → S ≡ again l
@@ -30,30 +30,6 @@ again-north N e q f = rw e
 again-north S e q f = true-false q f
 again-north W e q f = rw e
 
--- headings that are the same hop
-same-is : (g h : Heading) → same g h ≡ true → g ≡ h
-unfolding same
-same-is E E e = refl
-same-is E N e = true-false e refl
-same-is E S e = true-false e refl
-same-is E W e = true-false e refl
-same-is N E e = true-false e refl
-same-is N N e = refl
-same-is N S e = true-false e refl
-same-is N W e = true-false e refl
-same-is S E e = true-false e refl
-same-is S N e = true-false e refl
-same-is S S e = refl
-same-is S W e = true-false e refl
-same-is W E e = true-false e refl
-same-is W N e = true-false e refl
-same-is W S e = true-false e refl
-same-is W W e = refl
-
-same-self : (h : Heading) → same h h ≡ true
-unfolding same
-same-self h = eq-eqb (letter h) (letter h) refl
-
 pub last-self : (h : Heading) → lastIs (made h) h ≡ true
 unfolding lastIs
 last-self h = same-self h
@@ -61,7 +37,7 @@ last-self h = same-self h
 pub last-made : (l : Last) (h : Heading) → lastIs l h ≡ true → l ≡ made h
 unfolding lastIs
 last-made none h e = true-false e refl
-last-made (made g) h e = ap made (same-is g h e)
+last-made (made g) h e = ap made (same-heading g h e)
 
 module _ (t : Trip) (r c : ℕ) where
   -- stopped

@@ -1,17 +1,9 @@
 -- A packet and its destination's row. Assumes nothing.
-use mathlib.Core.Bool.{Bool, false, cond}
+use mathlib.Core.Bool.{Bool, cond}
 use lib.Dec.{ltb, eqb}
-use Rattle.mesh.specs.declared.Heading.{Heading}
 use Rattle.mesh.specs.declared.Heading.the-variants.{North as N, South as S}
-use Rattle.mesh.specs.declared.Last.{Last}
-use Rattle.mesh.specs.declared.Last.the-variants.{None as none, Made as made}
 use Rattle.mesh.specs.declared.Packet.{Packet}
-use Rattle.mesh.specs.Headings.{same}
-
--- the last hop was that way
-unfoldable pub lastIs : Last → Heading → Bool
-lastIs none h = false
-lastIs (made g) h = same g h
+use Rattle.mesh.specs.Headings.{lastIs}
 
 -- the packet is in its destination's row
 unfoldable pub inItsRow : Packet → Bool

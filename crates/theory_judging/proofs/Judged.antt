@@ -23,8 +23,9 @@ use Rattle.mesh.specs.Judging.{letterMistake, follow, Verdict, passed, failed, 
 use Rattle.mesh.proofs.Lists.{letters-length}
 use Rattle.mesh.proofs.Tests.{numberedTo, first-most}
 use Rattle.mesh.proofs.Bools.{true-false, value, and-both, and-intro}
+use Rattle.mesh.proofs.Headings.{letter-named}
 use Rattle.theory_judging.specs.Claims.{LawfulHandIn, lawfulHops, after, NotLawful, no-letter, unlawful, WentWrong, at-letter, at-end, FailedAt, refusalOf, tripTo}
-use Rattle.theory_judging.proofs.Letters.{letter-named, no-mistake-lawful, good, mistaken, examine}
+use Rattle.theory_judging.proofs.Letters.{no-mistake-lawful, good, mistaken, examine}
 
 -- Verdicts are told apart.
 passed-failed {ℓ} : {A : Type ℓ} {n k j : ℕ} → passed n ≡ failed k j → A

@@ -1,4 +1,4 @@
--- A single letter of a hand-in: what it names, and what is wrong with it. Assumes nothing.
+-- A single letter of a hand-in: what is wrong with it. Assumes nothing.
 use mathlib.Core.Path.{_≡_, refl}
 use mathlib.Core.Logic.{_↔_, _≢_, inl, inr}
 use mathlib.Core.Bool.{Bool, true, false, not, cond, _&&_}
@@ -18,47 +18,8 @@ use Rattle.mesh.specs.Rules.{Trip, blocked}
 use Rattle.mesh.specs.Hops.{At, stays, lawful}
 use Rattle.mesh.specs.Judging.{hopTests, letterMistake}
 use Rattle.mesh.proofs.Bools.{true-false, value}
+use Rattle.mesh.proofs.Headings.{letter-named, is-hop, is-other, name}
 use Rattle.theory_judging.specs.Claims.{NotLawful, no-letter, unlawful}
-
-pub letter-named : (h : Heading) → named (letter h) ≡ Hop h
-unfolding named
-letter-named E = refl
-letter-named N = refl
-letter-named S = refl
-letter-named W = refl
-
--- a byte with what it names
-pub data Named (x : ℕ) : Type 0 where
-  is-hop : (h : Heading) → x ≡ letter h → Named x
-  is-other : named x ≡ Other → Named x
-
-pub name : (x : ℕ) → Named x
-unfolding named
-name x =
-    elim (value (eqb x (letter E))) [
-      | inl e ↦ is-hop E (eqb-true x _ e)
-      | inr e ↦
-          elim (value (eqb x (letter N))) [
-            | inl n ↦ is-hop N (eqb-true x _ n)
-            | inr n ↦
-                elim (value (eqb x (letter S))) [
-                  | inl s ↦ is-hop S (eqb-true x _ s)
-                  | inr s ↦
-                      elim (value (eqb x (letter W)))
-                      [ inl t ↦ is-hop W (eqb-true x _ t) | inr t ↦ is-other (rw (e, n, s, t)) ]
-                ]
-          ]
-    ]
-
-pub named-hop : (x : ℕ) (h : Heading) → named x ≡ Hop h → x ≡ letter h
-named-hop x h e =
-    elim (name x) [
-      | is-hop g s ↦
-          let n : named x ≡ Hop g = rw s (letter-named g) in
-          let same : g ≡ h = cc in
-          rw (← same) s
-      | is-other o ↦ cc
-    ]
 
 -- the tests of a hop in their order, against the order of the definition of lawful
 unfoldable pub mistake : Bool → Bool → Broken → Bool → ℕ

@@ -19,8 +19,9 @@ use Rattle.mesh.specs.Rules.{Trip}
 use Rattle.mesh.specs.Hops.{At, fresh, lawful}
 use Rattle.mesh.specs.Walk.{lawfulRoute}
 use Rattle.mesh.specs.Judging.{letterMistake, passed, failed, judge, judgement}
+use Rattle.mesh.proofs.Headings.{letter-named, named-hop}
 use Rattle.theory_judging.specs.Claims.{LawfulHandIn, BreaksRule, FailedAt, BrokeRuleAt, refusalOf, tripTo}
-use Rattle.theory_judging.proofs.Letters.{letter-named, named-hop, no-mistake-lawful}
+use Rattle.theory_judging.proofs.Letters.{no-mistake-lawful}
 use Rattle.theory_judging.proofs.Judged.{route-passed, passed-lawful, failed-told, told-failed, clear-judged, refused-judged, passed-clear, failed-judged}
 use Rattle.theory_judging.proofs.Rules.{rule-is, broken-is-rule, reversal-keeps, failed-is-rule}
 

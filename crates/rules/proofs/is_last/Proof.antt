@@ -1,6 +1,6 @@
 -- A packet without a last hop has none that way; else the two headings are compared. Assumes nothing.
 use borrow.Author.Needs.{needs}
-use Rattle.rules.specs.Rows.{lastIs}
+use Rattle.mesh.specs.Headings.{lastIs}
 use Rattle.rules.proofs.is_last.Statement.{statement}
 use Rattle.rules.proofs.is_last.Tie as tie
 

@@ -1,0 +1,11 @@
+pub mod Groups
+pub mod Legs
+pub mod Files
+pub mod Letters
+pub mod Refusals
+pub mod Faults
+pub mod FileRefusals
+pub mod ThereAndBack
+pub mod Promises
+pub mod Sizes
+pub mod Theorems
