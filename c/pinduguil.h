@@ -5,7 +5,7 @@
  *
  * A slice is a pointer and then the number of its elements. Where the number is 0 the pointer may be NULL: nothing is read or written
  * through it. An output overlaps nothing else that is handed over. All other arguments may be anything: what is wrong is refused by its
- * number. Maps, sends, hand-ins letters and files are only read.
+ * number. Maps, sends, hand-ins, letters and files are only read.
  *
  * Refusals, in the order in which they are tested:
  *   1 columns not 1 to 64            6 source or destination off the mesh

@@ -1,10 +1,13 @@
 //! The operations on 64 x 64, the proved library against rust/plain_mesh.rs. A case is a list of calls; each checks and marks its map. A
-//! table of sends is one call; singles-N sets it against as many single calls of the library.
+//! table of sends is one call; singles-N sets it against as many single calls of the library. Letters to legs and back, against
+//! rust/plain_legs.rs, are one call and have no map.
 //!   operations CASE                   compares answers and output bytes; prints what was done, and then in one line the units of work in
 //!                                     the list and its nanoseconds, each call at its best, proved and plain
 //!   operations CASE proved|plain N    makes the first N calls and prints nothing, for counting instructions
-//! Cases: most-rounds, dense, judging, judging-nothing, one-map, many-maps, moving, table-N, singles-N. `speed/run` builds it and shows its
-//! figures.
+//! Cases: most-rounds, dense, judging, judging-nothing, one-map, many-maps, moving, table-N, singles-N, and by what is written legs-straight,
+//! legs-turning, letters-straight, letters-turning. `speed/run` builds it and shows its figures.
+#[path = "../rust/plain_legs.rs"]
+mod plain_legs;
 #[path = "../rust/plain_mesh.rs"]
 mod plain_mesh;
 #[path = "../rust/wrapper.rs"]
@@ -24,6 +27,7 @@ struct Case {
     maps: Vec<Vec<u8>>, // one, or one for each trip
     trips: Vec<Trip>,
     letters: Vec<u8>,
+    file: Vec<u8>,   // of the legs of these letters
     sends: Vec<u32>, // a table's
     room: usize,     // bytes of output
     calls: usize,
@@ -35,7 +39,7 @@ struct Case {
 struct Lent {
     out: Vec<u8>,
     answers: Vec<u32>,
-    index: [u64; 1], // or the number of a table's letters
+    index: [u64; 1], // or the number of a table's letters, or of what is written
     packet: [u32; 5],
     trips: usize, // how many are begun
     moving: bool, // whether the last one goes on
@@ -132,6 +136,22 @@ fn plain_move(case: &Case, lent: &mut Lent) -> u32 {
     move_by(case, lent, |map, packet| plain_mesh::move_on(&plain(case, map), packet))
 }
 
+fn proved_to_legs(case: &Case, lent: &mut Lent) -> u32 {
+    raw::letters_to_legs(&case.letters, &mut lent.out, &mut lent.index)
+}
+
+fn plain_to_legs(case: &Case, lent: &mut Lent) -> u32 {
+    plain_legs::letters_to_legs(&case.letters, &mut lent.out, &mut lent.index)
+}
+
+fn proved_to_letters(case: &Case, lent: &mut Lent) -> u32 {
+    raw::legs_to_letters(&case.file, &mut lent.out, &mut lent.index)
+}
+
+fn plain_to_letters(case: &Case, lent: &mut Lent) -> u32 {
+    plain_legs::legs_to_letters(&case.file, &mut lent.out, &mut lent.index)
+}
+
 fn at(row: usize, column: usize) -> usize {
     row * 64 + column
 }
@@ -193,7 +213,7 @@ fn long_walk() -> Vec<u8> {
 
 fn marking(map: Vec<u8>) -> Case {
     let (trips, sides) = (vec![[(0, 63); 2]], [proved_mark as fn(&Case, &mut Lent) -> u32, plain_mark]);
-    Case { side: 64, maps: vec![map], trips, letters: vec![], sends: vec![], room: NODES + 8, calls: 1, sides }
+    Case { side: 64, maps: vec![map], trips, letters: vec![], file: vec![], sends: vec![], room: NODES + 8, calls: 1, sides }
 }
 
 /// The faults are in rows 61 and 62, out of the walk's way.
@@ -227,6 +247,17 @@ fn table(rng: &mut Random, sends: usize, other: fn(&Case, &mut Lent) -> u32) -> 
     Case { room: 64 * (sends.len() / 4 + 64), sends, sides: [proved_table, other], ..marking(map) }
 }
 
+/// So many legs of one length, in directions that differ from one to the next.
+fn legs(rng: &mut Random, n: usize, length: usize, sides: [fn(&Case, &mut Lent) -> u32; 2]) -> Case {
+    let (mut direction, mut legs, mut letters) = (0, vec![], vec![]);
+    for _ in 0..n {
+        direction = (direction + 1 + rng.draw(3)) % 4;
+        legs.push((b"ENSW"[direction], length));
+        letters.resize(letters.len() + length, b"ENSW"[direction]);
+    }
+    Case { room: letters.len() + 8, letters, file: plain_legs::file_of(&legs), sides, ..marking(vec![]) }
+}
+
 /// How many requests on one map: REQUESTS, or 2,000.
 fn requests() -> usize {
     std::env::var("REQUESTS").map_or(2000, |n| n.parse().unwrap())
@@ -254,6 +285,10 @@ fn find_case(name: &str) -> Case {
         "table-65000" => table(&mut rng, 65_000, plain_table),
         "singles-300" => table(&mut rng, 300, proved_singles),
         "singles-65000" => table(&mut rng, 65_000, proved_singles),
+        "legs-straight" => legs(&mut rng, 1000, 16_384, [proved_to_legs, plain_to_legs]),
+        "legs-turning" => legs(&mut rng, 65_535, 1, [proved_to_legs, plain_to_legs]),
+        "letters-straight" => legs(&mut rng, 1000, 16_384, [proved_to_letters, plain_to_letters]),
+        "letters-turning" => legs(&mut rng, 65_535, 1, [proved_to_letters, plain_to_letters]),
         _ => panic!("no case {}", name),
     }
 }
@@ -293,6 +328,11 @@ fn compare(name: &str, case: &Case) -> (String, u64) {
             let other = if name.starts_with("table") { "plain Rust" } else { "single calls" };
             let done = format!("table of sends and {other}: {sends} sends on one map, {faults} faults, {served} served, {hops} hops, all equal");
             (done, sends as u64)
+        }
+        "legs-straight" | "legs-turning" | "letters-straight" | "letters-turning" => {
+            let (letters, file) = (case.letters.len(), case.file.len());
+            let way = if name.starts_with("legs") { "letters to legs" } else { "legs to letters" };
+            (format!("{way}: {letters} letters, a file of {file} bytes, both answer {last}, outputs equal"), letters as u64)
         }
         "moving" => (
             format!("move on, {trips} routes from source to arrival on one map, {faults} faults: {calls} calls, records equal"),

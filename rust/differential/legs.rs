@@ -108,7 +108,8 @@ fn draw_legs(rng: &mut Random) -> Vec<Leg> {
         let length = match rng.below(100) {
             0 => [4096, 4097, 16_384, 16_385][rng.below(4)],
             1 => 1 + rng.below(16_384),
-            2..=20 => 31 + rng.below(4),
+            2..=11 => 31 + rng.below(4),
+            12..=25 => 1 + rng.below(200),
             _ => 1 + rng.below(6),
         };
         (code, length)

@@ -61,8 +61,11 @@ impl Tests {
     fn report(&self) -> bool {
         let lent::Compared { inputs, outputs, .. } = self.compared;
         println!("{outputs} bytes of outputs and {inputs} of inputs compared");
-        let met = [self.marking.report(), self.routing.report(), self.batch.report(), self.judging.report(), self.moving.report()];
-        met.iter().all(|&met| met) & self.legs.report()
+        let met = [
+            self.marking.report(), self.routing.report(), self.batch.report(), self.judging.report(), self.moving.report(),
+            self.legs.report(),
+        ];
+        met.iter().all(|&met| met)
     }
 }
 
@@ -99,7 +102,7 @@ fn main() {
     tests.legs.check(&mut rng, &mut tests.compared);
     let all = tests.compared.requests;
     let (small, legs) = (meshes - largest - sizes, all - meshes);
-    println!("{all} requests, no difference: {sizes} over every size, {largest} on 64 x 64, {small} on small meshes, {legs} of legs and letters");
+    println!("{all} requests, no difference: {sizes} over every size, {largest} on 64 x 64, {small} on small meshes, {legs} of legs");
     if !tests.report() {
         println!("an answer or a null pointer was never met");
         std::process::exit(1);

@@ -1,8 +1,9 @@
-// Headings: their letters, and last hops in numbers.
+// Headings: their letters, their codes, and last hops in numbers.
 ghost use mathlib.Core.Path.{_≡_};
 ghost use mathlib.Core.Bool.{_||_};
 ghost use Rattle.mesh.specs.declared.Heading.the-variants.{North, South};
-ghost use Rattle.mesh.specs.Headings.{letter, same, named, headingNumber, lastNumber, lastOf};
+ghost use Rattle.mesh.specs.Headings.{letter, same, named, direction, headingNumber, lastNumber, lastOf};
+ghost use Rattle.headings.specs.Codes.{Counts, Codes};
 use mesh::Heading;
 use mesh::Last;
 use mesh::Letter;
@@ -53,6 +54,35 @@ pub fn read_letter(x: u8) -> Letter
         return Letter::Hop(Heading::West);
     }
     Letter::Other
+}
+
+fn one_if(b: bool) -> u32
+    ensures { λ x. ⌜ Counts b x ⌝ }
+{
+    b as u32
+}
+
+// The code of the hop that a letter names, without a jump: turns of a route can't be foretold.
+pub fn letter_code(x: u8) -> u32
+    ensures { λ k. ⌜ Codes x k ⌝ }
+{
+    one_if(x == b'N') + 2 * one_if(x == b'W') + 3 * one_if(x == b'S')
+}
+
+// The direction of a code.
+pub fn direction(code: u32) -> Heading
+    ensures { λ h. ⌜ h ≡ direction code ⌝ }
+{
+    if code == 0 {
+        return Heading::East;
+    }
+    if code == 1 {
+        return Heading::North;
+    }
+    if code == 2 {
+        return Heading::West;
+    }
+    Heading::South
 }
 
 fn heading_number(h: Heading) -> u32

@@ -1,6 +1,6 @@
 -- Laws of `some`, for a list that is looked through from the front. Assumes nothing.
-use mathlib.Core.Path.{_≡_, refl, sym, _∙_}
-use mathlib.Core.Bool.{Bool, true, false}
+use mathlib.Core.Path.{_≡_, refl, sym, ap, _∙_}
+use mathlib.Core.Bool.{Bool, true, false, _||_, or-assoc, or-false}
 use mathlib.Core.List.{List, [], _∷_}
 use Prim.Native.Nat.{ℕ, zero, suc, _+_, _≤_, _<_}
 use native.Mathlib.Nat.{add-zero, add-suc, suc-add}
@@ -32,13 +32,9 @@ module _ (t : ℕ → ℕ → Bool) (xs : List ℕ) where
     unfolding someFrom some
     some-end h = rw (drop-of-length-le xs {i = i} h)
 
-    some-here : i < length xs → t i (getD xs i 0) ≡ true → someFrom t xs i ≡ true
+    some-next : i < length xs → someFrom t xs i ≡ t i (getD xs i 0) || someFrom t xs (i + 1)
     unfolding someFrom some
-    some-here h e = rw (drop-cons xs i 0 h, e)
-
-    some-later : i < length xs → t i (getD xs i 0) ≡ false → someFrom t xs i ≡ someFrom t xs (i + 1)
-    unfolding someFrom some
-    some-later h e = rw (drop-cons xs i 0 h, e, add-one)
+    some-next h = rw (drop-cons xs i 0 h, add-one)
 
 -- n numbers are looked through for one that passes: none before index i does, so that the rest decides
 pub record LookedThrough (t : ℕ → ℕ → Bool) (xs : List ℕ) (n i : ℕ) : Type 0 where
@@ -55,10 +51,34 @@ module _ {t : ℕ → ℕ → Bool} {xs : List ℕ} {n i : ℕ} (l : LookedThrou
     inside = omega (arith, l .all)
 
     pub looked-here : t i (getD xs i 0) ≡ true → true ≡ some t 0 xs
-    looked-here e = sym (l .rest ∙ some-here t xs inside e)
+    looked-here e = sym (l .rest ∙ some-next t xs inside ∙ rw e)
 
     pub looked-more : t i (getD xs i 0) ≡ false → LookedThrough t xs n (i + 1)
-    looked-more e = record { within = omega arith; all = l .all; rest = l .rest ∙ some-later t xs inside e }
+    looked-more e = record { within = omega arith; all = l .all; rest = l .rest ∙ some-next t xs inside ∙ rw e }
 
   pub looked-all : n ≤ i → false ≡ some t 0 xs
   looked-all h = sym (l .rest ∙ some-end t xs (omega (arith, l .all)))
+
+-- all n numbers are looked at: b tells whether one before index i passes
+pub record Gathered (t : ℕ → ℕ → Bool) (xs : List ℕ) (n i : ℕ) (b : Bool) : Type 0 where
+  pub within : i ≤ n
+  pub all : n ≡ length xs
+  pub rest : some t 0 xs ≡ b || someFrom t xs i
+
+module _ (t : ℕ → ℕ → Bool) {xs : List ℕ} {n : ℕ} where
+  pub gathered-none : n ≡ length xs → Gathered t xs n 0 false
+  gathered-none e = record { within = omega arith; all = e; rest = some-all t xs }
+
+  module _ {i : ℕ} {b : Bool} (g : Gathered t xs n i b) where
+    pub gathered-more : {c : Bool} → i < n → c ≡ b || t i (getD xs i 0) → Gathered t xs n (i + 1) c
+    gathered-more {c} h e =
+        record {
+          within = omega arith;
+          all = g .all;
+          rest =
+              g .rest ∙ ap (λ x. b || x) (some-next t xs (omega (arith, g .all))) ∙
+              rw e (sym (or-assoc b (t i (getD xs i 0)) (someFrom t xs (i + 1))));
+        }
+
+    pub gathered-all : n ≤ i → b ≡ some t 0 xs
+    gathered-all h = sym (g .rest ∙ rw (some-end t xs {i = i} (omega (arith, g .all))) (or-false b))

@@ -1,8 +1,8 @@
 -- What an operation that keeps its promise did where it wrote, and whenever nothing is to be refused. Assumes nothing.
 use mathlib.Core.Path.{_≡_, refl, sym, _∙_}
 use mathlib.Core.Bool.{true}
-use mathlib.Core.List.{List}
-use Prim.Native.Nat.{ℕ, zero, suc, pred, _≤_}
+use mathlib.Core.List.{List, _++_}
+use Prim.Native.Nat.{ℕ, zero, suc, pred, _≤_, _<_}
 use native.Mathlib.Omega.{arith}
 use lib.ListN.{length, take, drop}
 use lib.Seq.{take-append-seam}
@@ -14,7 +14,7 @@ use Rattle.theory_legs.specs.declared.LegRefusal.the-variants.{Room, NoL
 use Rattle.theory_legs.specs.declared.Converted.{Converted}
 use Rattle.theory_legs.specs.declared.Converted.the-variants.{Wrote, Refused}
 use Rattle.theory_legs.specs.Converting.{legRefusalNumber, convertedAnswer, refusal, Converts}
-use Rattle.theory_legs.proofs.Refusals.{before-room, room-enough}
+use Rattle.theory_legs.proofs.Refusals.{before-room, room-lacks, room-enough}
 
 -- what returns has no refusal
 answer-returned : (k n : ℕ) {m : ℕ} → returned m ≡ answer k n → (k ≡ 0) × (m ≡ n)
@@ -54,7 +54,19 @@ number-some SameDirection = refl
 number-some LeftOver = refl
 number-some TooLong = refl
 
--- on a refusal it says why, and alters nothing
-pub refuses-as : {tests : List Test} {new out : List ℕ} (r : LegRefusal) → refusal tests new out ≡ legRefusalNumber r → Converts tests new out (Refused r) out
-unfolding answer written
-refuses-as r e = record { answers = rw (e, number-some r); writes = rw (e, number-some r) }
+module _ {tests : List Test} {new out : List ℕ} where
+  -- on a refusal it says why, and alters nothing
+  pub refuses-as : (r : LegRefusal) → refusal tests new out ≡ legRefusalNumber r → Converts tests new out (Refused r) out
+  unfolding answer written
+  refuses-as r e = record { answers = rw (e, number-some r); writes = rw (e, number-some r) }
+
+  -- where nothing is refused but room
+  module _ (n : numbered tests ≡ true) (clear : first tests ≡ 0) {size : ℕ} (sized : length new ≡ size) where
+    pub refuses-room : length out < size → Converts tests new out (Refused Room) out
+    refuses-room h = refuses-as Room (room-lacks tests new out n clear (rw sized h))
+
+    pub wrote-as : {after : List ℕ} → size ≤ length out → after ≡ new ++ drop (length new) out → Converts tests new out (Wrote size) after
+    unfolding answer written
+    wrote-as h e =
+        let none = room-enough tests new out n clear (rw sized h) in
+        record { answers = rw (none, sized); writes = rw none e }

@@ -1,0 +1,4 @@
+pub mod Letters
+pub mod Measuring
+pub mod Writing
+pub mod Answering
