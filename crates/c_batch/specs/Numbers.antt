@@ -3,19 +3,9 @@ use mathlib.Core.Path.{_≡_}
 use mathlib.Core.List.{List}
 use Prim.Native.Nat.{ℕ}
 use lib.ListN.{length}
-use Rattle.mesh.specs.Numbers.{Answer, refused, returned, answer, written}
+use Rattle.mesh.specs.Numbers.{answer, written}
 use Rattle.theory_batch.specs.Batch.{answersOf, lettersOf, batch, batchRefusal}
-use Rattle.buffers.specs.Over.{putFirst}
-
--- the refusal, or 0
-abbrev pub refusalOf : Answer → ℕ
-refusalOf (returned n) = 0
-refusalOf (refused k) = k
-
--- what is returned, put first if there is room for it; a refusal touches nothing
-abbrev pub putReturned : Answer → List ℕ → List ℕ
-putReturned (returned n) xs = putFirst n xs
-putReturned (refused k) xs = xs
+use Rattle.numbers.specs.Returned.{putReturned}
 
 -- its promise: x is 0 or the refusal, and the number of letters stands first in letters
 pub record RoutesBatchInNumbers (columns rows : ℕ) (map sends answers out letters : List ℕ) (x : ℕ) (answers′ out′ letters′ : List ℕ) : Type 0 where

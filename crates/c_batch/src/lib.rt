@@ -1,7 +1,9 @@
 // "A whole table of sends" for programs in C and Rust (c/pinduguil.h).
 ghost use mathlib.Core.Path.{_≡_};
+ghost use Rattle.mesh.specs.Numbers.{answerRefusal};
 ghost use Rattle.theory_batch.specs.Batch.{batchedAnswer};
-ghost use Rattle.c_batch.specs.Numbers.{refusalOf, putReturned, RoutesBatchInNumbers};
+ghost use Rattle.numbers.specs.Returned.{putReturned};
+ghost use Rattle.c_batch.specs.Numbers.{RoutesBatchInNumbers};
 use batch::route_batch;
 use buffers::put_first;
 use numbers::refusal_number;
@@ -9,7 +11,7 @@ use theory_batch::Batched;
 
 // The refusal, or 0.
 fn batched_code(answer: Batched) -> u32
-    ensures { λ x. ⌜ x ≡ refusalOf (batchedAnswer answer) ⌝ }
+    ensures { λ x. ⌜ x ≡ answerRefusal (batchedAnswer answer) ⌝ }
 {
     match answer {
         Batched::Letters(_) => return 0,

@@ -1,13 +1,13 @@
 -- The numbers of refusals are 1 to 10, no mistake has number 0; what a refusal answers and writes. Assumes nothing.
 use mathlib.Core.Path.{_≡_, refl}
 use mathlib.Core.List.{List}
-use Prim.Native.Nat.{ℕ, suc, pred, _≤_}
+use Prim.Native.Nat.{ℕ, zero, suc, pred, _≤_}
 use native.Mathlib.Omega.{arith}
 use Rattle.mesh.specs.declared.Refusal.{Refusal}
 use Rattle.mesh.specs.declared.Refusal.the-variants.{Columns, Rows, MapLength, MapByte, FaultPlace, OffMesh, InBlock, OnRing, Unlawful, Room}
 use Rattle.mesh.specs.declared.Mistake.{Mistake}
 use Rattle.mesh.specs.declared.Mistake.the-variants.{NoLetter, LeavesMesh, Reverses, BreaksRule1, BreaksRule2, EntersBlock, NotArrived}
-use Rattle.mesh.specs.Numbers.{number, mistakeNumber, refused, answer, written}
+use Rattle.mesh.specs.Numbers.{number, mistakeNumber, refused, answer, answerRefusal, written}
 
 pub number-some : (why : Refusal) → number why ≡ suc (pred (number why))
 number-some Columns = refl
@@ -41,6 +41,11 @@ mistake-some BreaksRule1 = refl
 mistake-some BreaksRule2 = refl
 mistake-some EntersBlock = refl
 mistake-some NotArrived = refl
+
+pub answer-refusal : (k n : ℕ) → answerRefusal (answer k n) ≡ k
+unfolding answer
+answer-refusal zero n = refl
+answer-refusal (suc k) n = refl
 
 pub answer-refused : (why : Refusal) (n : ℕ) → answer (number why) n ≡ refused (number why)
 unfolding answer

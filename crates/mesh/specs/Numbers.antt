@@ -54,6 +54,11 @@ unfoldable pub answer : ℕ → ℕ → Answer
 answer zero n = returned n
 answer (suc k) n = refused (suc k)
 
+-- the refusal of an answer, or 0
+abbrev pub answerRefusal : Answer → ℕ
+answerRefusal (returned n) = 0
+answerRefusal (refused k) = k
+
 -- a refusal among other numbers: 65,536 plus its own
 unfoldable pub refusalCode : ℕ → ℕ
 refusalCode k = 65536 + k
