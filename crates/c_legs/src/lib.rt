@@ -45,7 +45,11 @@ fn put_written(answer: Converted, written: &mut [u64])
 }
 
 #[no_mangle]
-pub extern "C" fn pinduguil_letters_to_legs(letters: &[u8], out: &mut [u8], written: &mut [u64]) -> u32
+pub extern "C" fn pinduguil_letters_to_legs(
+    letters: &[u8],
+    out: &mut [u8],
+    written: &mut [u64],
+) -> u32
     ensures { λ x. ⌜ ConvertsInNumbers (letterTests (now (letters .entry))) (fileOf (now (letters .entry))) (now (out .entry)) (now (written .entry)) x (now (out .exit)) (now (written .exit)) ⌝ }
 {
     let answer = letters_to_legs(letters, out);

@@ -1,5 +1,5 @@
 -- Reading a number group by group, from the byte that stands at an index. Assumes nothing.
-use mathlib.Core.Path.{_≡_, refl, sym, ap, _∙_}
+use mathlib.Core.Path.{_≡_, refl, sym, _∙_}
 use mathlib.Core.List.{List, [], _∷_}
 use Prim.Native.Nat.{ℕ, zero, suc, _+_, _-_, _*_, _%_, _≤_, _<_}
 use native.Mathlib.Numerals.{add-one}
@@ -7,7 +7,7 @@ use native.Mathlib.Omega.{arith}
 use borrow.Author.Tests.{lt-ltb, le-ltb}
 use lib.ListN.{length, getD, drop, drop-of-length-le}
 use lib.Seq.{drop-cons}
-use Rattle.theory_legs.specs.Groups.{Found, fault, found, andThen, above, readGroups, notLarge, readNumber}
+use Rattle.theory_legs.specs.Groups.{fault, found, andThen, above, readGroups, notLarge, readNumber}
 use Rattle.theory_legs.proofs.Groups.{read-last, read-more, groupsRoom, groups-small, number-read}
 use Rattle.groups.specs.declared.Number.{Number}
 use Rattle.groups.specs.declared.Number.the-variants.{Value, CutShort, Bad}

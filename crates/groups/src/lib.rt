@@ -93,11 +93,11 @@ fn read_groups(k: u32, file: &[u8], at: usize) -> Number
     if file.len() <= at {
         return Number::CutShort;
     }
-    let g = wide(file[at]);
-    if g < 128 {
-        return Number::Value(g, at + 1);
+    let group = wide(file[at]);
+    if group < 128 {
+        return Number::Value(group, at + 1);
     }
-    above(g, read_groups(k - 1, file, at + 1))
+    above(group, read_groups(k - 1, file, at + 1))
 }
 
 // The number from index at of a file on. Most have one group.
@@ -107,9 +107,9 @@ pub fn read_number(file: &[u8], at: usize) -> Number
     if file.len() <= at {
         return Number::CutShort;
     }
-    let g = wide(file[at]);
-    if g < 128 {
-        return Number::Value(g, at + 1);
+    let first = wide(file[at]);
+    if first < 128 {
+        return Number::Value(first, at + 1);
     }
-    not_large(above(g, read_groups(2, file, at + 1)))
+    not_large(above(first, read_groups(2, file, at + 1)))
 }

@@ -4,13 +4,10 @@ use mathlib.Core.Logic.{_↔_, _≢_, inl, inr}
 use mathlib.Core.Bool.{Bool, true, false, not, cond, _&&_}
 use Prim.Native.Nat.{ℕ, suc, pred}
 use native.Mathlib.Omega.{arith}
-use borrow.Author.Tests.{eqb-true}
-use lib.Dec.{eqb}
 use Rattle.mesh.specs.declared.Broken.{Broken}
 use Rattle.mesh.specs.declared.Broken.the-variants.{Neither, Rule1, Rule2}
 use Rattle.mesh.specs.declared.Heading.{Heading}
-use Rattle.mesh.specs.declared.Heading.the-variants.{East as E, North as N, South as S, West as W}
-use Rattle.mesh.specs.declared.Letter.the-variants.{Hop, Other}
+use Rattle.mesh.specs.declared.Letter.the-variants.{Hop}
 use Rattle.mesh.specs.Headings.{letter, named}
 use Rattle.mesh.specs.Tests.{first}
 use Rattle.mesh.specs.Turns.{hopBreaks, isRule1, isRule2, forbidden, turnsBack, mayTurn}

@@ -59,9 +59,9 @@ legs-known zero before xs = is-found
 legs-known (suc k) before xs =
     known-then (readNumber xs) _ (omega arith) (number-known xs)
     (λ n rest.
-        let next = made (legOf n .heading) in
-        known-cond (lastIs before (legOf n .heading)) (is-fault 21 (omega arith) (omega arith))
-        (before-known (legOf n) (readLegs k next rest) (legs-known k next rest)))
+    let next = made (legOf n .heading) in
+    known-cond (lastIs before (legOf n .heading)) (is-fault 21 (omega arith) (omega arith))
+    (before-known (legOf n) (readLegs k next rest) (legs-known k next rest)))
 
 all-known : (ls : List Leg) (rest : List ℕ) → Known 22 (allRead ls rest)
 unfolding allRead

@@ -1,5 +1,5 @@
 -- When a file is refused: 22 and 10 by their conditions. Assumes nothing.
-use mathlib.Core.Path.{_≡_, refl, sym, _∙_}
+use mathlib.Core.Path.{_≡_, refl, sym, ap, _∙_}
 use mathlib.Core.Logic.{_↔_}
 use mathlib.Core.Bool.{true}
 use mathlib.Core.List.{List, [], _∷_, _++_, append-nil}
@@ -55,6 +55,21 @@ module _ (ys out : List ℕ) where
   pub fault-refuses : {k : ℕ} → readFile ys ≡ fault k → refuses ≡ k
   unfolding refusal fileTests faultTests first
   fault-refuses e = rw e
+
+  room-few : FileAccepted ys → refuses ≤ 10
+  room-few a =
+      elim (decLt (length out) (length (lettersOf ys))) [
+        | yes h ↦ omega (arith, room-lacks (fileTests ys) (lettersOf ys) out (file-numbered ys) a h)
+        | no h ↦ omega (arith, room-enough (fileTests ys) (lettersOf ys) out (file-numbered ys) a (omega arith))
+      ]
+
+  -- and an answer above 10 is a fault that is met
+  pub refused-fault : {k : ℕ} → 11 ≤ k → refuses ≡ k → readFile ys ≡ fault k
+  refused-fault l e =
+      elim (outcome (readFile ys)) [
+        | faulty j f ↦ f ∙ ap fault (sym (fault-refuses f) ∙ e)
+        | read ls rest f ↦ absurd (omega (arith, room-few (legs-accepted ys f), e))
+      ]
 
   -- 10: the output is too short for the letters of an accepted file
   pub file-refused-10 : refuses ≡ 10 ↔ (FileAccepted ys × (length out < length (lettersOf ys)))
@@ -120,20 +135,7 @@ fault-left ys bs e =
     ]
 
 pub file-refused-22 : (ys out : List ℕ) → Bytes ys → refuses ys out ≡ 22 ↔ LeftOver ys
-file-refused-22 ys out bs = (there, λ l. fault-refuses ys out (left-fault ys bs l))
-  where
-    room-few : FileAccepted ys → refuses ys out ≤ 10
-    room-few a =
-        elim (decLt (length out) (length (lettersOf ys))) [
-          | yes h ↦ omega (arith, room-lacks (fileTests ys) (lettersOf ys) out (file-numbered ys) a h)
-          | no h ↦ omega (arith, room-enough (fileTests ys) (lettersOf ys) out (file-numbered ys) a (omega arith))
-        ]
-
-    there : refuses ys out ≡ 22 → LeftOver ys
-    there e =
-        elim (outcome (readFile ys)) [
-          | faulty k f ↦
-              let z : k ≡ 22 = sym (fault-refuses ys out f) ∙ e in
-              fault-left ys bs (rw z at f)
-          | read ls rest f ↦ absurd (omega (arith, room-few (legs-accepted ys f), e))
-        ]
+file-refused-22 ys out bs = (
+  λ e. fault-left ys bs (refused-fault ys out (omega arith) e),
+  λ l. fault-refuses ys out (left-fault ys bs l),
+)

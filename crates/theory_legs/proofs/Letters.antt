@@ -1,14 +1,14 @@
 -- Letters and the hops that they name. Assumes nothing.
-use mathlib.Core.Path.{_≡_, refl, sym, ap, _∙_}
+use mathlib.Core.Path.{_≡_, refl, sym, _∙_}
 use mathlib.Core.Logic.{_↔_, inl, inr}
 use mathlib.Core.Bool.{true, false}
 use mathlib.Core.List.{List, [], _∷_}
-use Prim.Native.Nat.{ℕ, zero, suc, _+_, _<_}
+use Prim.Native.Nat.{ℕ, suc}
 use native.Mathlib.Omega.{arith}
-use lib.ListN.{length, getD}
+use lib.ListN.{getD}
 use Rattle.mesh.specs.declared.Heading.{Heading}
 use Rattle.mesh.specs.declared.Letter.the-variants.{Hop, Other}
-use Rattle.mesh.specs.Headings.{letter, letters, named}
+use Rattle.mesh.specs.Headings.{letters, named}
 use Rattle.mesh.specs.Maps.{some}
 use Rattle.mesh.proofs.Bools.{value, or-none, true-false}
 use Rattle.mesh.proofs.Some.{none-passes}

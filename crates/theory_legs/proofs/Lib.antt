@@ -4,6 +4,7 @@ pub mod Files
 pub mod Letters
 pub mod Refusals
 pub mod Faults
+pub mod Fronts
 pub mod FileRefusals
 pub mod ThereAndBack
 pub mod Promises

@@ -2,7 +2,7 @@
 use mathlib.Core.Path.{_≡_, refl, sym, _∙_}
 use mathlib.Core.Bool.{false}
 use mathlib.Core.List.{List, [], _∷_}
-use Prim.Native.Nat.{ℕ, suc, _+_, _-_, _*_, _≤_, _<_}
+use Prim.Native.Nat.{ℕ, _+_, _-_, _*_, _≤_, _<_}
 use native.Mathlib.Decide.{decLt}
 use native.Mathlib.Omega.{arith}
 use borrow.Author.Tests.{le-ltb}
@@ -55,8 +55,13 @@ module _ where
   unfolding legBytes Straight
   bytes-shorter before [] s = omega arith
   bytes-shorter before (l ∷ ls) s =
-      omega (arith, hops-length l ls, length-append (numberBytes (legNumber l)) (legBytes ls), leg-shorter (l .heading) (l .length) (s .1),
-        bytes-shorter (made (l .heading)) ls (s .2))
+      omega (
+        arith,
+        hops-length l ls,
+        length-append (numberBytes (legNumber l)) (legBytes ls),
+        leg-shorter (l .heading) (l .length) (s .1),
+        bytes-shorter (made (l .heading)) ls (s .2),
+      )
 
   legs-fewer : (before : Last) (ls : List Leg) → Straight before ls → length ls ≤ length (hops ls)
   unfolding Straight

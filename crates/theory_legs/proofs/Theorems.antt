@@ -1,8 +1,9 @@
 -- What is shown of legs and their files (document 02, E3). Each theorem is proved in the file that its proof cites. Assumes nothing.
 use mathlib.Core.Path.{_≡_, refl}
 use mathlib.Core.Logic.{_⊎_, _↔_}
-use mathlib.Core.List.{List}
+use mathlib.Core.List.{List, _++_}
 use Prim.Native.Nat.{ℕ, suc, _+_, _≤_, _<_}
+use native.Mathlib.Omega.{arith}
 use lib.ListN.{length, take}
 use Rattle.mesh.specs.declared.Heading.{Heading}
 use Rattle.mesh.specs.declared.Last.the-variants.{None as none}
@@ -17,7 +18,8 @@ use Rattle.theory_legs.specs.Converting.{convertedAnswer, refusal, Conve
 use Rattle.theory_legs.specs.Claims.{Bytes, Straight, SomeOther, SomeLong, RouteAccepted, FileAccepted, FileOfRoute, LeftOver}
 use Rattle.theory_legs.proofs.Legs.{hops-of-legs, legs-straight, legs-only}
 use Rattle.theory_legs.proofs.Refusals.{letters-numbered, refused-11, refused-23, refused-10}
-use Rattle.theory_legs.proofs.FileRefusals.{file-numbered, file-refused-22, file-refused-10}
+use Rattle.theory_legs.proofs.FileRefusals.{file-numbered, fault-refuses, refused-fault, file-refused-22, file-refused-10}
+use Rattle.theory_legs.proofs.Fronts.{fault-stays}
 use Rattle.theory_legs.proofs.ThereAndBack.{route-file-accepted, route-file-letters, file-letters-accepted, file-letters-file, only-file, accepted-is-file}
 use Rattle.theory_legs.proofs.Promises.{wrote-all, writes-all}
 use Rattle.theory_legs.proofs.Sizes.{file-shorter, short-accepted}
@@ -104,7 +106,12 @@ module _ (xs out : List ℕ) where
   pub refusal-10 : refusal (letterTests xs) (fileOf xs) out ≡ 10 ↔ (RouteAccepted xs × (length out < length (fileOf xs)))
   refusal-10 = refused-10 xs out
 
--- of legs to letters: 22 exactly if bytes follow an accepted file,
+-- of legs to letters, which reads from the front: what is refused by 20, 21 or 22 is refused so whatever bytes follow;
+pub first-fault : (ys more out : List ℕ) {k : ℕ} → 20 ≤ k → refusal (fileTests ys) (lettersOf ys) out ≡ k →
+    refusal (fileTests (ys ++ more)) (lettersOf (ys ++ more)) out ≡ k
+first-fault ys more out l e = fault-refuses (ys ++ more) out (fault-stays more ys (refused-fault ys out (omega arith) e) (λ z. omega arith))
+
+-- 22 exactly if bytes follow an accepted file,
 pub file-refusal-22 : (ys out : List ℕ) → Bytes ys → refusal (fileTests ys) (lettersOf ys) out ≡ 22 ↔ LeftOver ys
 file-refusal-22 = file-refused-22
 

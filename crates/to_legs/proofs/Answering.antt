@@ -14,7 +14,7 @@ use Rattle.theory_legs.specs.declared.Converted.the-variants.{Wrote, Refused}
 use Rattle.theory_legs.specs.Groups.{numberBytes}
 use Rattle.theory_legs.specs.Legs.{Leg}
 use Rattle.theory_legs.specs.Files.{legNumber, legBytes, file}
-use Rattle.theory_legs.specs.Converting.{refusal, someOther, someLong, tooLong, legsOf, letterTests, fileOf, LettersToLegs}
+use Rattle.theory_legs.specs.Converting.{refusal, someOther, tooLong, legsOf, letterTests, fileOf, LettersToLegs}
 use Rattle.theory_legs.proofs.Groups.{size-few}
 use Rattle.theory_legs.proofs.Refusals.{letters-numbered, fits-accepted}
 use Rattle.theory_legs.proofs.Promises.{refuses-as, refuses-room, wrote-as}

@@ -23,12 +23,11 @@ use Rattle.theory_legs.specs.declared.LegRefusal.the-variants as why
 use Rattle.theory_legs.specs.Groups.{Found, fault, found, andThen, readNumber}
 use Rattle.theory_legs.specs.Legs.{Leg, hops}
 use Rattle.theory_legs.specs.Files.{legOf, legBefore, readLegs, allRead, readFile}
-use Rattle.theory_legs.specs.Converting.{legRefusalNumber}
 use Rattle.theory_legs.proofs.Files.{leg-unread, leg-repeats, leg-differs}
 use Rattle.to_letters.specs.declared.Span.{Span}
 use Rattle.to_letters.specs.declared.Span.the-variants as span
 use Rattle.to_letters.specs.declared.Counted.the-variants as counted
-use Rattle.to_letters.specs.Counted.{lastCoded, legsAfter, sizes, spanTold, CountsLegs, Whole, CountsFile}
+use Rattle.to_letters.specs.Counted.{lastCoded, legsAfter, sizes, spanTold, CountsLegs, CountsFile}
 
 -- The forerunner's direction by its code
 

@@ -15,7 +15,7 @@ use Rattle.buffers.proofs.Over.{over-append, over-length}
 use Rattle.groups.specs.declared.Number.{Number}
 use Rattle.groups.specs.declared.Number.the-variants.{Value, CutShort, Bad}
 use Rattle.groups.specs.Reading.{numberTold, numberFrom}
-use Rattle.theory_legs.specs.Groups.{fault, found, readNumber}
+use Rattle.theory_legs.specs.Groups.{found, readNumber}
 use Rattle.theory_legs.specs.Legs.{Leg, hops}
 use Rattle.theory_legs.specs.Files.{legOf, legBefore, readLegs}
 use Rattle.theory_legs.specs.Converting.{legsIn}
@@ -135,7 +135,12 @@ module _ {ys : List ℕ} {first legs : ℕ} {out : List ℕ} {at to left : ℕ} 
               after = m .after;
               size = same-size ∙ w .size;
               room =
-                  omega (arith, length-append run (hops (m .others)), length-replicate (n / 4 + 1) (direction (n % 4)),
-                    length-replicate (n / 4 + 1) (letter (direction (n % 4))), p .next);
+                  omega (
+                    arith,
+                    length-append run (hops (m .others)),
+                    length-replicate (n / 4 + 1) (direction (n % 4)),
+                    length-replicate (n / 4 + 1) (letter (direction (n % 4))),
+                    p .next,
+                  );
               leads = rw (p .stands, p .next) (sym (over-append now to new (letters (hops (m .others)))) ∙ leads-here);
             }

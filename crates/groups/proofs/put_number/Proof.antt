@@ -31,13 +31,19 @@ cast-put-byte-3 : tie.Need-cast-put-byte-3
 cast-put-byte-3 c = search needs
 
 put-byte-requires-3 : tie.Need-put-byte-requires-3
-put-byte-requires-3 c κs = omega (arith, size-two _ (c .before .before .before .before .before .before .if1 .left) (c .before .if2 .taken))
+put-byte-requires-3 c κs =
+    let at-if1 = c .before .before .before .before .before .before in
+    omega (arith, size-two _ (at-if1 .if1 .left) (c .before .if2 .taken))
 
 same-length-2 : tie.Need-same-length-2
 same-length-2 c = search needs
 
 returns-2 : tie.Need-returns-2
-returns-2 c = puts-two _ (c .before .before .before .before .before .before .before .before .before .if1 .left) (c .before .before .before .before .if2 .taken) (c .before .before .before .before .before .before .before .put-byte2 .ensures) (c .before .before .put-byte3 .ensures)
+returns-2 c =
+    let at-if2 = c .before .before .before .before in
+    let at-put-byte2 = at-if2 .before .before .before in
+    let at-if1 = at-put-byte2 .before .before in
+    puts-two _ (at-if1 .if1 .left) (at-if2 .if2 .taken) (at-put-byte2 .put-byte2 .ensures) (c .before .before .put-byte3 .ensures)
 
 add-put-byte-2 : tie.Need-add-put-byte-2
 add-put-byte-2 c = search needs
@@ -58,7 +64,12 @@ same-length-3 : tie.Need-same-length-3
 same-length-3 c = search needs
 
 returns-3 : tie.Need-returns-3
-returns-3 c = puts-three _ (c .before .before .before .before .before .before .before .before .if2 .left) (c .before .before .before .before .before .before .before .before .before .before .before .before .before .before .before .pre .0) (c .before .before .before .before .before .before .before .before .before .before .before .put-byte2 .ensures) (c .before .before .before .before .before .before .put-byte4 .ensures) (c .before .before .put-byte5 .ensures)
+returns-3 c =
+    let at-put-byte4 = c .before .before .before .before .before .before in
+    let at-if2 = at-put-byte4 .before .before in
+    let at-put-byte2 = at-if2 .before .before .before in
+    let at-entry = at-put-byte2 .before .before .before .before in
+    puts-three _ (at-if2 .if2 .left) (at-entry .pre .0) (at-put-byte2 .put-byte2 .ensures) (at-put-byte4 .put-byte4 .ensures) (c .before .before .put-byte5 .ensures)
 
 pub put-number-spec : {M : Type 1} → statement M
 put-number-spec =

@@ -1,7 +1,7 @@
 -- E and N lie before O, S and W after it, so each byte is compared with the letters of its half. Assumes nothing.
 use native.Mathlib.Omega.{arith}
 use borrow.Author.Tests.{eq-eqb, ne-eqb}
-use Rattle.mesh.specs.Headings.{letter, named}
+use Rattle.mesh.specs.Headings.{named}
 use Rattle.headings.proofs.read_letter.Statement.{statement}
 use Rattle.headings.proofs.read_letter.Tie as tie
 
