@@ -94,10 +94,11 @@ fn read_groups(k: u32, file: &[u8], at: usize) -> Number
         return Number::CutShort;
     }
     let group = wide(file[at]);
+    let next = at + 1;
     if group < 128 {
-        return Number::Value(group, at + 1);
+        return Number::Value(group, next);
     }
-    above(group, read_groups(k - 1, file, at + 1))
+    above(group, read_groups(k - 1, file, next))
 }
 
 // The number from index at of a file on. Most have one group.
@@ -108,8 +109,9 @@ pub fn read_number(file: &[u8], at: usize) -> Number
         return Number::CutShort;
     }
     let first = wide(file[at]);
+    let next = at + 1;
     if first < 128 {
-        return Number::Value(first, at + 1);
+        return Number::Value(first, next);
     }
-    not_large(above(first, read_groups(2, file, at + 1)))
+    not_large(above(first, read_groups(2, file, next)))
 }

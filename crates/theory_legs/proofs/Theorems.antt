@@ -7,10 +7,14 @@ use native.Mathlib.Omega.{arith}
 use lib.ListN.{length, take}
 use Rattle.mesh.specs.declared.Heading.{Heading}
 use Rattle.mesh.specs.declared.Last.the-variants.{None as none}
+use Rattle.mesh.specs.declared.Place.{Place}
 use Rattle.mesh.specs.Headings.{letters, code, direction}
 use Rattle.mesh.specs.Tests.{Test}
 use Rattle.mesh.specs.Numbers.{refused, answer, written}
 use Rattle.mesh.proofs.Headings.{direction-of-code, code-of-direction}
+use Rattle.theory_demands.specs.Demand3 as demand3
+use Rattle.theory_demands.specs.Demand3.{requestRefusal}
+use Rattle.theory_demands.proofs.Theorems.{routes-are-short}
 use Rattle.theory_legs.specs.declared.Converted.{Converted}
 use Rattle.theory_legs.specs.declared.Converted.the-variants.{Wrote}
 use Rattle.theory_legs.specs.Legs.{Leg, legs, hops}
@@ -76,9 +80,15 @@ one-file = only-file
 pub accepted-files : (ys : List ℕ) → Bytes ys → FileAccepted ys ↔ FileOfRoute ys
 accepted-files = accepted-is-file
 
--- a route of 16,384 hops or fewer is accepted, and so is each that is ever handed out (4,034 hops at most, `hops-most` of theory_walk)
+-- a route of 16,384 hops or fewer is accepted,
 pub short-routes : (hs : List Heading) → length hs ≤ 16384 → RouteAccepted (letters hs)
 short-routes = short-accepted
+
+-- and so is each that Route hands out
+pub routes-have-files : (columns rows : ℕ) (map : List ℕ) (s d : Place) → requestRefusal columns rows map s d ≡ 0 →
+    RouteAccepted (letters (demand3.hops columns rows map s d))
+routes-have-files columns rows map s d served =
+    short-accepted (demand3.hops columns rows map s d) (omega (arith, routes-are-short columns rows map s d served))
 
 -- three bytes more than the route has letters are always room for its file
 pub file-room : (xs : List ℕ) → RouteAccepted xs → length (fileOf xs) ≤ length xs + 3

@@ -37,7 +37,7 @@ slice-read t c = omega arith
 wide-requires : (t : ℕ) → lts.Need-wide-requires (callees t) (at t) read-groups.Post
 wide-requires t c κs = tt
 
-add-next : (t : ℕ) → lts.Need-add-t9 (callees t) (at t) read-groups.Post
+add-next : (t : ℕ) → lts.Need-add-next (callees t) (at t) read-groups.Post
 add-next t c = omega arith
 
 returns-3 : (t : ℕ) → lts.Need-returns-3 (callees t) (at t) read-groups.Post
@@ -47,9 +47,6 @@ returns-3 t c =
 
 sub-less : (t : ℕ) → lts.Need-sub-read-groups (callees t) (at t) read-groups.Post
 sub-less t c = omega arith
-
-add-more : (t : ℕ) → lts.Need-add-read-groups (callees t) (at t) read-groups.Post
-add-more t c = omega arith
 
 less : (t : ℕ) → lts.Need-read-groups-requires (callees t) (at t) read-groups.Post
 less t c κs = omega arith
@@ -73,7 +70,6 @@ pub +read-groups-spec : {M : Type 1} → statement M
     (add-next t)
     (returns-3 t)
     (sub-less t)
-    (add-more t)
     (less t)
     (above-requires t)
     (returns-4 t)

@@ -14,14 +14,11 @@ shared-slice-read-wide c = search needs
 wide-requires : tie.Need-wide-requires
 wide-requires c κs = search needs
 
-add-t8 : tie.Need-add-t8
-add-t8 c = search needs
+add-next : tie.Need-add-next
+add-next c = search needs
 
 returns-2 : tie.Need-returns-2
 returns-2 c = number-last _ _ (c .before .wide .ensures) (c .before .before .before .if1 .left) (c .if2 .taken)
-
-add-read-groups : tie.Need-add-read-groups
-add-read-groups c = search needs
 
 read-groups-requires : tie.Need-read-groups-requires
 read-groups-requires c κs = search needs
@@ -46,9 +43,8 @@ read-number-spec =
     returns
     shared-slice-read-wide
     wide-requires
-    add-t8
+    add-next
     returns-2
-    add-read-groups
     read-groups-requires
     above-requires
     not-large-requires
