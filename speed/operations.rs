@@ -4,8 +4,8 @@
 //!   operations CASE                   compares answers and output bytes; prints what was done, and then in one line the units of work in
 //!                                     the list and its nanoseconds, each call at its best, proved and plain
 //!   operations CASE proved|plain N    makes the first N calls and prints nothing, for counting instructions
-//! Cases: most-rounds, dense, judging, judging-nothing, one-map, many-maps, moving, table-N, singles-N, and by what is written legs-straight,
-//! legs-turning, letters-straight, letters-turning. `speed/run` builds it and shows its figures.
+//! Cases: most-rounds, dense, judging, judging-nothing, one-map, many-maps, moving, table-N, singles-N, and by what is written legs-L and
+//! letters-L, where L is straight, mixed or turning. `speed/run` builds it and shows its figures.
 #[path = "../rust/plain_legs.rs"]
 mod plain_legs;
 #[path = "../rust/plain_mesh.rs"]
@@ -247,11 +247,13 @@ fn table(rng: &mut Random, sends: usize, other: fn(&Case, &mut Lent) -> u32) -> 
     Case { room: 64 * (sends.len() / 4 + 64), sends, sides: [proved_table, other], ..marking(map) }
 }
 
-/// So many legs of one length, in directions that differ from one to the next.
-fn legs(rng: &mut Random, n: usize, length: usize, sides: [fn(&Case, &mut Lent) -> u32; 2]) -> Case {
+/// So many legs of such lengths, in directions that differ from one to the next.
+fn legs(rng: &mut Random, n: usize, lengths: [usize; 2], sides: [fn(&Case, &mut Lent) -> u32; 2]) -> Case {
     let (mut direction, mut legs, mut letters) = (0, vec![], vec![]);
+    let [least, most] = lengths;
     for _ in 0..n {
         direction = (direction + 1 + rng.draw(3)) % 4;
+        let length = least + rng.draw(most - least + 1);
         legs.push((b"ENSW"[direction], length));
         letters.resize(letters.len() + length, b"ENSW"[direction]);
     }
@@ -285,10 +287,12 @@ fn find_case(name: &str) -> Case {
         "table-65000" => table(&mut rng, 65_000, plain_table),
         "singles-300" => table(&mut rng, 300, proved_singles),
         "singles-65000" => table(&mut rng, 65_000, proved_singles),
-        "legs-straight" => legs(&mut rng, 1000, 16_384, [proved_to_legs, plain_to_legs]),
-        "legs-turning" => legs(&mut rng, 65_535, 1, [proved_to_legs, plain_to_legs]),
-        "letters-straight" => legs(&mut rng, 1000, 16_384, [proved_to_letters, plain_to_letters]),
-        "letters-turning" => legs(&mut rng, 65_535, 1, [proved_to_letters, plain_to_letters]),
+        "legs-straight" => legs(&mut rng, 1000, [16_384; 2], [proved_to_legs, plain_to_legs]),
+        "legs-mixed" => legs(&mut rng, 20_000, [1, 20], [proved_to_legs, plain_to_legs]),
+        "legs-turning" => legs(&mut rng, 65_535, [1; 2], [proved_to_legs, plain_to_legs]),
+        "letters-straight" => legs(&mut rng, 1000, [16_384; 2], [proved_to_letters, plain_to_letters]),
+        "letters-mixed" => legs(&mut rng, 20_000, [1, 20], [proved_to_letters, plain_to_letters]),
+        "letters-turning" => legs(&mut rng, 65_535, [1; 2], [proved_to_letters, plain_to_letters]),
         _ => panic!("no case {}", name),
     }
 }
@@ -329,7 +333,7 @@ fn compare(name: &str, case: &Case) -> (String, u64) {
             let done = format!("table of sends and {other}: {sends} sends on one map, {faults} faults, {served} served, {hops} hops, all equal");
             (done, sends as u64)
         }
-        "legs-straight" | "legs-turning" | "letters-straight" | "letters-turning" => {
+        _ if name.starts_with("legs-") || name.starts_with("letters-") => {
             let (letters, file) = (case.letters.len(), case.file.len());
             let way = if name.starts_with("legs") { "letters to legs" } else { "legs to letters" };
             (format!("{way}: {letters} letters, a file of {file} bytes, both answer {last}, outputs equal"), letters as u64)

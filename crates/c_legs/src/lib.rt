@@ -10,7 +10,7 @@ use theory_legs::LegRefusal;
 use to_legs::letters_to_legs;
 use to_letters::legs_to_letters;
 
-fn leg_refusal_number(why: LegRefusal) -> u32
+pub fn leg_refusal_number(why: LegRefusal) -> u32
     ensures { λ x. ⌜ x ≡ legRefusalNumber why ⌝ }
 {
     match why {

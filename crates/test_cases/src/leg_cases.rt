@@ -1,29 +1,17 @@
 // Letters to legs, and legs to letters. The output of a file is 9 where no byte is written, that of letters has dots where no letter is.
 use crate::prints::print;
 use crate::prints::print_number;
+use c_legs::leg_refusal_number;
 use theory_legs::Converted;
-use theory_legs::LegRefusal;
 use to_legs::letters_to_legs;
 use to_letters::legs_to_letters;
-
-fn refusal(why: LegRefusal) -> u64 {
-    match why {
-        LegRefusal::Room => return 10,
-        LegRefusal::NoLetter => return 11,
-        LegRefusal::CutShort => return 19,
-        LegRefusal::BadNumber => return 20,
-        LegRefusal::SameDirection => return 21,
-        LegRefusal::LeftOver => return 22,
-        LegRefusal::TooLong => return 23,
-    }
-}
 
 fn print_converted(answer: Converted) {
     match answer {
         Converted::Wrote(n) => print_number(n as u64),
         Converted::Refused(why) => {
             print(b"no ");
-            print_number(refusal(why))
+            print_number(leg_refusal_number(why) as u64)
         }
     }
 }
