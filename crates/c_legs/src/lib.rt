@@ -2,8 +2,8 @@
 ghost use mathlib.Core.Path.{_≡_};
 ghost use Rattle.mesh.specs.Numbers.{answerRefusal};
 ghost use Rattle.numbers.specs.Returned.{putReturned};
-ghost use Rattle.theory_legs.specs.Converting.{legRefusalNumber, convertedAnswer, letterTests, fileOf, fileTests, lettersOf};
-ghost use Rattle.c_legs.specs.Numbers.{ConvertsInNumbers};
+ghost use Rattle.theory_legs.specs.Converting.{legRefusalNumber, convertedAnswer};
+ghost use Rattle.c_legs.specs.Numbers.{LettersToLegsInNumbers, LegsToLettersInNumbers};
 use buffers::put_first;
 use theory_legs::Converted;
 use theory_legs::LegRefusal;
@@ -50,7 +50,7 @@ pub extern "C" fn pinduguil_letters_to_legs(
     out: &mut [u8],
     written: &mut [u64],
 ) -> u32
-    ensures { λ x. ⌜ ConvertsInNumbers (letterTests (now (letters .entry))) (fileOf (now (letters .entry))) (now (out .entry)) (now (written .entry)) x (now (out .exit)) (now (written .exit)) ⌝ }
+    ensures { λ x. ⌜ LettersToLegsInNumbers (now (letters .entry)) (now (out .entry)) (now (written .entry)) x (now (out .exit)) (now (written .exit)) ⌝ }
 {
     let answer = letters_to_legs(letters, out);
     put_written(answer, written);
@@ -59,7 +59,7 @@ pub extern "C" fn pinduguil_letters_to_legs(
 
 #[no_mangle]
 pub extern "C" fn pinduguil_legs_to_letters(file: &[u8], out: &mut [u8], written: &mut [u64]) -> u32
-    ensures { λ x. ⌜ ConvertsInNumbers (fileTests (now (file .entry))) (lettersOf (now (file .entry))) (now (out .entry)) (now (written .entry)) x (now (out .exit)) (now (written .exit)) ⌝ }
+    ensures { λ x. ⌜ LegsToLettersInNumbers (now (file .entry)) (now (out .entry)) (now (written .entry)) x (now (out .exit)) (now (written .exit)) ⌝ }
 {
     let answer = legs_to_letters(file, out);
     put_written(answer, written);

@@ -18,7 +18,7 @@ use Rattle.theory_legs.specs.Legs.{Leg}
 use Rattle.theory_legs.specs.Files.{legNumber, legOf, legBytes, file, legBefore, readLegs, allRead, readFile}
 use Rattle.theory_legs.specs.Converting.{someLong, tooLong}
 use Rattle.theory_legs.specs.Claims.{Bytes, Straight}
-use Rattle.theory_legs.proofs.Groups.{read-number, faulty, read, outcome, number-read, fault-found}
+use Rattle.theory_legs.proofs.Groups.{read-number, number-bytes, faulty, read, outcome, number-read, fault-found}
 
 -- A leg and its number
 
@@ -61,13 +61,15 @@ module _ (k : ℕ) (before : Last) (xs : List ℕ) where
     leg-repeats r = rw (e, r)
 
     -- it is before the others
-    pub leg-differs : lastIs before (legOf n .heading) ≡ false → readLegs (suc k) before xs ≡ legBefore (legOf n) (readLegs k (made (legOf n .heading)) rest)
+    pub leg-differs : lastIs before (legOf n .heading) ≡ false →
+        readLegs (suc k) before xs ≡ legBefore (legOf n) (readLegs k (made (legOf n .heading)) rest)
     unfolding readLegs andThen
     leg-differs r = rw (e, r)
 
 -- There and back
 
-read-legs : (before : Last) (ls : List Leg) (rest : List ℕ) → Straight before ls → someLong ls ≡ false → readLegs (length ls) before (legBytes ls ++ rest) ≡ found ls rest
+read-legs : (before : Last) (ls : List Leg) (rest : List ℕ) → Straight before ls → someLong ls ≡ false →
+    readLegs (length ls) before (legBytes ls ++ rest) ≡ found ls rest
 unfolding readLegs legBytes Straight someLong legBefore
 read-legs before [] rest s e = refl
 read-legs before (l ∷ ls) rest s e =
@@ -86,7 +88,8 @@ record LegsRead (k : ℕ) (before : Last) (xs : List ℕ) (ls : List Leg) (rest 
   pub straight : Straight before ls
   pub short : someLong ls ≡ false
 
-legs-read : (k : ℕ) (before : Last) (xs : List ℕ) {ls : List Leg} {rest : List ℕ} → Bytes xs → readLegs k before xs ≡ found ls rest → LegsRead k before xs ls rest
+legs-read : (k : ℕ) (before : Last) (xs : List ℕ) {ls : List Leg} {rest : List ℕ} → Bytes xs →
+    readLegs k before xs ≡ found ls rest → LegsRead k before xs ls rest
 unfolding readLegs legBytes Straight someLong legBefore
 legs-read zero before xs {ls} {rest} bs e =
     let none-read : [] ≡ ls = cc in
@@ -120,12 +123,36 @@ legs-read (suc k) before xs {ls} {rest} bs e =
           ]
     ]
 
+-- a file is bytes
+
+bytes-append : (xs ys : List ℕ) → Bytes xs → Bytes ys → Bytes (xs ++ ys)
+unfolding Bytes
+bytes-append [] ys p q = q
+bytes-append (x ∷ xs) ys p q = (p .0, bytes-append xs ys (p .1) q)
+
+legs-bytes : (before : Last) (ls : List Leg) → Straight before ls → someLong ls ≡ false → Bytes (legBytes ls)
+unfolding legBytes Straight someLong Bytes
+legs-bytes before [] s e = tt
+legs-bytes before (l ∷ ls) s e =
+    let short = or-none _ _ e in
+    let small = leg-number-small l (s .1) (ltb-false 16384 (l .length) (short .0)) in
+    bytes-append (numberBytes (legNumber l)) (legBytes ls) (number-bytes (legNumber l) small)
+    (legs-bytes (made (l .heading)) ls (s .2) (short .1))
+
+pub file-bytes : (ls : List Leg) → Straight none ls → tooLong ls ≡ false → Bytes (file ls)
+unfolding file tooLong
+file-bytes ls s e =
+    let fit = or-none _ _ e in
+    bytes-append (numberBytes (length ls)) (legBytes ls) (number-bytes (length ls) (ltb-false 65535 (length ls) (fit .1)))
+    (legs-bytes none ls s (fit .0))
+
 -- the number of legs, the legs and what is left over
 pub read-file-rest : (ls : List Leg) (rest : List ℕ) → Straight none ls → tooLong ls ≡ false → readFile (file ls ++ rest) ≡ allRead ls rest
 unfolding readFile file andThen tooLong
 read-file-rest ls rest s e =
     let fit = or-none _ _ e in
-    rw (append-assoc (numberBytes (length ls)) (legBytes ls) rest, read-number (length ls) (legBytes ls ++ rest) (ltb-false 65535 (length ls) (fit .1)), read-legs none ls rest s (fit .0))
+    let count = read-number (length ls) (legBytes ls ++ rest) (ltb-false 65535 (length ls) (fit .1)) in
+    rw (append-assoc (numberBytes (length ls)) (legBytes ls) rest, count, read-legs none ls rest s (fit .0))
 
 pub read-file : (ls : List Leg) → Straight none ls → tooLong ls ≡ false → readFile (file ls) ≡ found ls []
 unfolding allRead
@@ -137,7 +164,8 @@ pub record FileRead (xs : List ℕ) (ls : List Leg) (rest : List ℕ) : Type 0 w
   pub straight : Straight none ls
   pub fits : tooLong ls ≡ false
 
-pub file-legs-read : (xs : List ℕ) {n : ℕ} {after : List ℕ} {ls : List Leg} {rest : List ℕ} → Bytes xs → readNumber xs ≡ found n after → readLegs n none after ≡ found ls rest → FileRead xs ls rest
+pub file-legs-read : (xs : List ℕ) {n : ℕ} {after : List ℕ} {ls : List Leg} {rest : List ℕ} → Bytes xs →
+    readNumber xs ≡ found n after → readLegs n none after ≡ found ls rest → FileRead xs ls rest
 unfolding file tooLong
 file-legs-read xs {n} {after} {ls} {rest} bs u v =
     let told = number-read xs u in

@@ -21,8 +21,8 @@ module _ (more : List ℕ) where
     cut-short : {y : Found A} → Extends (fault 19) y
 
   -- what follows is read from further on
-  then-extends : {A B : Type 0} {x y : Found A} {f : A → List ℕ → Found B} → Extends x y → ((a : A) (rest : List ℕ) → Extends (f a rest) (f a (rest ++ more))) →
-      Extends (andThen x f) (andThen y f)
+  then-extends : {A B : Type 0} {x y : Found A} {f : A → List ℕ → Found B} → Extends x y →
+      ((a : A) (rest : List ℕ) → Extends (f a rest) (f a (rest ++ more))) → Extends (andThen x f) (andThen y f)
   unfolding andThen
   then-extends both-found g = g _ _
   then-extends both-fault g = both-fault

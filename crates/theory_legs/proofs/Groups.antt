@@ -134,6 +134,20 @@ pub read-number : (n : ℕ) (rest : List ℕ) → n ≤ 65535 → readNumber (nu
 unfolding readNumber numberBytes andThen notLarge groupsRoom
 read-number n rest h = rw (read-groups 2 n rest (omega arith), le-ltb 65535 n h)
 
+-- groups are bytes
+groups-bytes : (k n : ℕ) → n < groupsRoom k → Bytes (groups k n)
+unfolding groups groupsRoom Bytes
+groups-bytes zero n h = tt
+groups-bytes (suc k) n h =
+    elim (decLt n 128) [
+      | yes l ↦ rw (lt-ltb n 128 l) (omega arith, tt)
+      | no l ↦ rw (le-ltb n 128 (omega arith)) (omega arith, groups-bytes k (n / 128) (omega arith))
+    ]
+
+pub number-bytes : (n : ℕ) → n ≤ 65535 → Bytes (numberBytes n)
+unfolding numberBytes groupsRoom
+number-bytes n h = groups-bytes 3 n (omega arith)
+
 -- a group before others that were read
 record Above (g n : ℕ) (rest : List ℕ) (m : ℕ) (after : List ℕ) : Type 0 where
   pub needed : 0 < n

@@ -4,7 +4,7 @@ use mathlib.Core.Bool.{true}
 use mathlib.Core.List.{List, _++_}
 use Prim.Native.Nat.{ℕ, zero, suc, pred, _≤_, _<_}
 use lib.ListN.{length, take, drop}
-use lib.Seq.{take-append-seam}
+use lib.Seq.{take-append-seam, drop-at}
 use Rattle.mesh.specs.Tests.{Test, first}
 use Rattle.mesh.specs.Numbers.{returned, answer, written}
 use Rattle.mesh.proofs.Tests.{numbered}
@@ -35,6 +35,12 @@ module _ {tests : List Test} {new out : List ℕ} {r : Converted} {after : List 
   wrote-all {n} e =
       let t = answer-returned (refusal tests new out) (length new) (rw e at (does .answers)) in
       (before-room tests new out (t .0), rw (t .1, does .writes, t .0) (written-front new out))
+
+  pub rest-as-was : {n : ℕ} → r ≡ Wrote n → drop n after ≡ drop n out
+  unfolding written
+  rest-as-was {n} e =
+      let t = answer-returned (refusal tests new out) (length new) (rw e at (does .answers)) in
+      rw (t .1, does .writes, t .0) (drop-at new _ _ refl)
 
   pub writes-all : numbered tests ≡ true → first tests ≡ 0 → length new ≤ length out →
       (r ≡ Wrote (length new)) × (take (length new) after ≡ new)

@@ -37,7 +37,8 @@ module _ (tests : List Test) (new out : List ℕ) where
     unfolding refusal first
     room-only e = by (value (ltb (length out) (length new))) (sym (clear-next tests _ n clear) ∙ e)
       where
-        by : (ltb (length out) (length new) ≡ true) ⊎ (ltb (length out) (length new) ≡ false) → _≡_ {A = ℕ} (cond (ltb (length out) (length new)) 10 0) 10 → length out < length new
+        by : (ltb (length out) (length new) ≡ true) ⊎ (ltb (length out) (length new) ≡ false) →
+            _≡_ {A = ℕ} (cond (ltb (length out) (length new)) 10 0) 10 → length out < length new
         by (inl t) e = ltb-true _ _ t
         by (inr f) e = let z : _≡_ {A = ℕ} 0 10 = rw f at e in absurd (omega arith)
 

@@ -4,7 +4,7 @@ use mathlib.Core.Logic.{_⊎_, _↔_}
 use mathlib.Core.List.{List, _++_}
 use Prim.Native.Nat.{ℕ, suc, _+_, _≤_, _<_}
 use native.Mathlib.Omega.{arith}
-use lib.ListN.{length, take}
+use lib.ListN.{length, take, drop}
 use Rattle.mesh.specs.declared.Heading.{Heading}
 use Rattle.mesh.specs.declared.Last.the-variants.{None as none}
 use Rattle.mesh.specs.declared.Place.{Place}
@@ -24,8 +24,8 @@ use Rattle.theory_legs.proofs.Legs.{hops-of-legs, legs-straight, legs-o
 use Rattle.theory_legs.proofs.Refusals.{letters-numbered, refused-11, refused-23, refused-10}
 use Rattle.theory_legs.proofs.FileRefusals.{file-numbered, fault-refuses, refused-fault, file-refused-22, file-refused-10}
 use Rattle.theory_legs.proofs.Fronts.{fault-stays}
-use Rattle.theory_legs.proofs.ThereAndBack.{route-file-accepted, route-file-letters, file-letters-accepted, file-letters-file, only-file, accepted-is-file}
-use Rattle.theory_legs.proofs.Promises.{wrote-all, writes-all}
+use Rattle.theory_legs.proofs.ThereAndBack.{route-file-bytes, route-file-accepted, route-file-letters, file-letters-accepted, file-letters-file, only-file, accepted-is-file}
+use Rattle.theory_legs.proofs.Promises.{wrote-all, rest-as-was, writes-all}
 use Rattle.theory_legs.proofs.Sizes.{file-shorter, short-accepted}
 
 -- The legs of a route
@@ -70,9 +70,18 @@ file-again {ys} bs p q room =
     let back = file-letters-file ys bs (t .0) in
     rw back at (writes-all (rw (t .1) at q) (letters-numbered (lettersOf ys)) (file-letters-accepted ys bs (t .0)) (rw back room))
 
+-- bytes after what was written are as they were
+pub rest-untouched : {tests : List Test} {new out : List ℕ} {n : ℕ} {after : List ℕ} → Converts tests new out (Wrote n) after →
+    drop n after ≡ drop n out
+rest-untouched does = rest-as-was does refl
+
 -- Each accepted route has exactly one file
 
--- by route-there-and-back it has one; any other is the same
+-- by route-there-and-back it has one, which is bytes;
+pub files-are-bytes : (xs : List ℕ) → RouteAccepted xs → Bytes (fileOf xs)
+files-are-bytes = route-file-bytes
+
+-- any other is the same
 pub one-file : (xs ys : List ℕ) → Bytes ys → FileAccepted ys → lettersOf ys ≡ xs → ys ≡ fileOf xs
 one-file = only-file
 

@@ -11,7 +11,7 @@ use Rattle.theory_legs.specs.Files.{file, readFile}
 use Rattle.theory_legs.specs.Converting.{legsOf, hopsNamed, fileOf, legsIn, lettersOf}
 use Rattle.theory_legs.specs.Claims.{Bytes, RouteAccepted, FileAccepted, FileOfRoute}
 use Rattle.theory_legs.proofs.Legs.{hops-of-legs, legs-straight, legs-of-hops}
-use Rattle.theory_legs.proofs.Files.{read-file, FileRead, file-read}
+use Rattle.theory_legs.proofs.Files.{file-bytes, read-file, FileRead, file-read}
 use Rattle.theory_legs.proofs.Letters.{hops-of-letters, letters-no-other, letters-of-hops}
 use Rattle.theory_legs.proofs.Refusals.{accepted-fits, fits-accepted}
 use Rattle.theory_legs.proofs.FileRefusals.{accepted-legs, legs-accepted}
@@ -22,6 +22,10 @@ module _ (xs : List ℕ) (a : RouteAccepted xs) where
   route-read : readFile (fileOf xs) ≡ found (legsOf xs) []
   unfolding fileOf
   route-read = read-file (legsOf xs) (legs-straight (hopsNamed xs)) (accepted-fits xs a .1)
+
+  pub route-file-bytes : Bytes (fileOf xs)
+  unfolding fileOf
+  route-file-bytes = file-bytes (legsOf xs) (legs-straight (hopsNamed xs)) (accepted-fits xs a .1)
 
   pub route-file-accepted : FileAccepted (fileOf xs)
   route-file-accepted = legs-accepted (fileOf xs) route-read

@@ -40,7 +40,8 @@ allHold (x ∷ xs) = holds x && allHold xs
 
 -- Both ends of one, two and three groups; the empty route, that of map A, a reversal, and a leg at either end of one byte. Then what is refused: no
 -- letter, no room; cut short in the number of legs, before a leg and in one; a needless group in second and in third place, a third group
--- with its top bit set and nothing after it, and numbers too large; a leg in its forerunner's direction, before a cut and before bytes left over; bytes left over; no room.
+-- with its top bit set and nothing after it, and numbers too large; a leg in its forerunner's direction, before a cut and before bytes left
+-- over; bytes left over; no room.
 unfoldable pub worked : List Case
 worked =
     grouped 127 (127 ∷ []) ∷

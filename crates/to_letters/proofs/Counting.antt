@@ -194,5 +194,6 @@ module _ (ys : List ℕ) {x : Number} (t : numberTold ys x ≡ numberFrom ys 0) 
         pub file-whole : length ys ≤ end → CountsFile ys (counted.Legs legs first total)
         unfolding CountsFile allRead andThen
         file-whole h =
-            let all : legsAfter ys first legs none ≡ found (legs-found .found-legs) [] = legs-found .is-found ∙ rw (drop-of-length-le ys {i = end} h) in
+            let nothing = drop-of-length-le ys {i = end} h in
+            let all : legsAfter ys first legs none ≡ found (legs-found .found-legs) [] = legs-found .is-found ∙ rw nothing in
             record { legs-there = legs-found .found-legs; after = all; all = file-legs ∙ rw all; total-is = legs-found .size }

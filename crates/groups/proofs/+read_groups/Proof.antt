@@ -57,7 +57,8 @@ above-requires t c κs = groups-few _ _ _ _ (omega arith) (c .read-groups .ensur
 returns-4 : (t : ℕ) → lts.Need-returns-4 (callees t) (at t) read-groups.Post
 returns-4 t c =
     let at-cut = c .before .before .before .before .before in
-    groups-more _ _ (c .before .before .before .wide .ensures) (at-cut .if2 .left) (c .before .before .if3 .left) (c .above .ensures) _ (at-cut .before .if1 .left)
+    let at-more = c .before .before in
+    groups-more _ _ (at-more .before .wide .ensures) (at-cut .if2 .left) (at-more .if3 .left) (c .above .ensures) _ (at-cut .before .if1 .left)
     (c .before .read-groups .ensures)
 
 pub +read-groups-spec : {M : Type 1} → statement M

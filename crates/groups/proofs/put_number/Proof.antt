@@ -69,7 +69,8 @@ returns-3 c =
     let at-if2 = at-put-byte4 .before .before in
     let at-put-byte2 = at-if2 .before .before .before in
     let at-entry = at-put-byte2 .before .before .before .before in
-    puts-three _ (at-if2 .if2 .left) (at-entry .pre .0) (at-put-byte2 .put-byte2 .ensures) (at-put-byte4 .put-byte4 .ensures) (c .before .before .put-byte5 .ensures)
+    puts-three _ (at-if2 .if2 .left) (at-entry .pre .0) (at-put-byte2 .put-byte2 .ensures) (at-put-byte4 .put-byte4 .ensures)
+    (c .before .before .put-byte5 .ensures)
 
 pub put-number-spec : {M : Type 1} → statement M
 put-number-spec =

@@ -35,7 +35,8 @@ returns-3 c =
     let at-span = c .before in
     let at-legs = at-span .before .before in
     let at-value = at-legs .before .before in
-    file-refused _ (at-value .before .before .read-number .ensures) (at-value .number .given .1) (at-legs .count-legs .ensures) (at-span .span .given .1)
+    file-refused _ (at-value .before .before .read-number .ensures) (at-value .number .given .1)
+    (at-legs .count-legs .ensures) (at-span .span .given .1)
 
 enum-known-span-2 : tie.Need-enum-known-span-2
 enum-known-span-2 c = search needs
@@ -45,16 +46,16 @@ returns-4 c =
     let at-span = c .before .before in
     let at-legs = at-span .before .before in
     let at-value = at-legs .before .before in
-    file-left _ (at-value .before .before .read-number .ensures) (at-value .number .given .1) (at-legs .count-legs .ensures) (at-span .span2 .given .1)
-    (c .if1 .taken)
+    file-left _ (at-value .before .before .read-number .ensures) (at-value .number .given .1)
+    (at-legs .count-legs .ensures) (at-span .span2 .given .1) (c .if1 .taken)
 
 returns-5 : tie.Need-returns-5
 returns-5 c =
     let at-span = c .before .before in
     let at-legs = at-span .before .before in
     let at-value = at-legs .before .before in
-    file-whole _ (at-value .before .before .read-number .ensures) (at-value .number .given .1) (at-legs .count-legs .ensures) (at-span .span2 .given .1)
-    (c .if1 .left)
+    file-whole _ (at-value .before .before .read-number .ensures) (at-value .number .given .1)
+    (at-legs .count-legs .ensures) (at-span .span2 .given .1) (c .if1 .left)
 
 pub count-file-spec : {M : Type 1} → statement M
 count-file-spec =

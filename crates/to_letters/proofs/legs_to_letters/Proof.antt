@@ -37,7 +37,8 @@ returns-3 c =
     let at-write = c .before .before in
     let at-room = at-write .before .before in
     let at-case = at-room .before .before in
-    answers-wrote _ _ (at-case .before .before .count-file .ensures) (at-case .counted2 .given .1) (at-room .if1 .left) (at-write .write-letters .ensures)
+    answers-wrote _ _ (at-case .before .before .count-file .ensures) (at-case .counted2 .given .1) (at-room .if1 .left)
+    (at-write .write-letters .ensures)
 
 pub legs-to-letters-spec : {M : Type 1} → statement M
 legs-to-letters-spec =
