@@ -5,10 +5,12 @@ use Prim.Native.Nat.{ℕ}
 use Rattle.mesh.specs.declared.Heading.{Heading}
 use Rattle.mesh.specs.Headings.{letter, code}
 
+-- 1 where b is true, else 0
 abbrev pub oneIf : Bool → ℕ
 oneIf true = 1
 oneIf false = 0
 
+-- x is that
 pub record Counts (b : Bool) (x : ℕ) : Type 0 where
   pub counted : x ≡ oneIf b
 

@@ -1,5 +1,5 @@
-// The bench cases of document 01, starred ones included, and some more on moving on and judging. Prints each request with its answer; the
-// file stdout has the answers of the paper. Meshes have 10 columns and 8 rows, and a place is one number, as 34 for (3,4).
+// The bench cases of document 01, starred ones included, some more on moving on and judging, tables of sends and files of legs. Prints each
+// request with its answer; the file stdout has the answers of the paper. Meshes have 10 columns and 8 rows, and a place is one number, as 34 for (3,4).
 mod batch_cases;
 mod judging_cases;
 mod leg_cases;

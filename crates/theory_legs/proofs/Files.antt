@@ -3,7 +3,7 @@ use mathlib.Core.Path.{_≡_, refl, ap, _∙_}
 use mathlib.Core.Logic.{inl, inr}
 use mathlib.Core.Bool.{true, false}
 use mathlib.Core.List.{List, [], _∷_, _++_, append-assoc, append-nil}
-use Prim.Native.Nat.{ℕ, zero, suc, _+_, _-_, _*_, _/_, _%_, _≤_}
+use Prim.Native.Nat.{ℕ, zero, suc, _+_, _/_, _%_, _≤_}
 use native.Mathlib.Nat.{mod-lt}
 use native.Mathlib.Omega.{arith}
 use borrow.Author.Tests.{ltb-false, le-ltb}
@@ -22,13 +22,13 @@ use Rattle.theory_legs.proofs.Groups.{read-number, number-bytes, faulty
 
 -- A leg and its number
 
-pub leg-of-number : (l : Leg) → 1 ≤ l .length → legOf (legNumber l) ≡ l
-unfolding legOf legNumber
-leg-of-number l h =
-    let f = code-few (l .heading) in
-    let turn : ((l .length - 1) * 4 + code (l .heading)) % 4 ≡ code (l .heading) = omega arith in
-    let long : ((l .length - 1) * 4 + code (l .heading)) / 4 + 1 ≡ l .length = omega arith in
-    rw (turn, long, direction-of-code (l .heading))
+number-tells : (l : Leg) → 1 ≤ l .length → (legNumber l / 4 + 1 ≡ l .length) × (legNumber l % 4 ≡ code (l .heading))
+unfolding legNumber
+number-tells l h = let f = code-few (l .heading) in (omega arith, omega arith)
+
+leg-of-number : (l : Leg) → 1 ≤ l .length → legOf (legNumber l) ≡ l
+unfolding legOf
+leg-of-number l h = let t = number-tells l h in rw (t .0, t .1, direction-of-code (l .heading))
 
 number-of-leg : (n : ℕ) → legNumber (legOf n) ≡ n
 unfolding legOf legNumber

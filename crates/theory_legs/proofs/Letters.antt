@@ -13,7 +13,7 @@ use Rattle.mesh.specs.Maps.{some}
 use Rattle.mesh.proofs.Bools.{value, or-none, true-false}
 use Rattle.mesh.proofs.Some.{none-passes}
 use Rattle.mesh.proofs.Headings.{letter-named, is-hop, is-other, name}
-use Rattle.theory_legs.specs.Converting.{isOther, someOther, hopBy, hopsNamed}
+use Rattle.theory_legs.specs.Converting.{isOther, noLetter, someOther, hopBy, hopsNamed}
 use Rattle.theory_legs.specs.Claims.{SomeOther}
 
 pub hops-of-letters : (hs : List Heading) → hopsNamed (letters hs) ≡ hs
@@ -25,7 +25,7 @@ pub letters-no-other : (hs : List Heading) → someOther (letters hs) ≡ false
 unfolding someOther some letters isOther
 letters-no-other hs = from 0 hs
   where
-    from : (i : ℕ) (gs : List Heading) → some (λ j x. isOther (named x)) i (letters gs) ≡ false
+    from : (i : ℕ) (gs : List Heading) → some noLetter i (letters gs) ≡ false
     from i [] = refl
     from i (g ∷ gs) = rw (letter-named g) (from (suc i) gs)
 
@@ -33,10 +33,10 @@ pub letters-of-hops : (xs : List ℕ) → someOther xs ≡ false → letters (ho
 unfolding someOther some hopsNamed letters isOther hopBy
 letters-of-hops xs e = from 0 xs e
   where
-    from : (i : ℕ) (ys : List ℕ) → some (λ j x. isOther (named x)) i ys ≡ false → letters (hopsNamed ys) ≡ ys
+    from : (i : ℕ) (ys : List ℕ) → some noLetter i ys ≡ false → letters (hopsNamed ys) ≡ ys
     from i [] e = refl
     from i (y ∷ ys) e =
-        let clear = or-none (isOther (named y)) (some (λ j x. isOther (named x)) (suc i) ys) e in
+        let clear = or-none (isOther (named y)) (some noLetter (suc i) ys) e in
         elim (name y) [
           | is-hop h s ↦ rw (s, letter-named h, from (suc i) ys (clear .1))
           | is-other n ↦ let c : true ≡ false = rw n at (clear .0) in true-false refl c
@@ -44,7 +44,7 @@ letters-of-hops xs e = from 0 xs e
 
 -- some letter is none of the four
 
-other-told : (i : ℕ) (xs : List ℕ) → some (λ j x. isOther (named x)) i xs ≡ true → SomeOther xs
+other-told : (i : ℕ) (xs : List ℕ) → some noLetter i xs ≡ true → SomeOther xs
 unfolding some isOther
 other-told i [] e = true-false e refl
 other-told i (x ∷ xs) e =
@@ -71,7 +71,7 @@ some-other xs = (
   λ o. elim (value (someOther xs)) [
     | inl e ↦ e
     | inr e ↦
-        let letter-there = none-passes (λ j x. isOther (named x)) 0 xs e (o .index) (o .within) in
+        let letter-there = none-passes noLetter 0 xs e (o .index) (o .within) in
         elim (name (getD xs (o .index) 0)) [
           | is-hop h s ↦ absurd (o .no-letter h s)
           | is-other n ↦ let c : true ≡ false = rw n at letter-there in true-false refl c

@@ -48,13 +48,18 @@ pub record Converts (tests : List Test) (new out : List ℕ) (r : Converted) (af
 
 -- Letters to legs
 
+-- what names no hop
 unfoldable pub isOther : Letter → Bool
 isOther (Hop h) = false
 isOther Other = true
 
+-- a byte, at any index, that is not one of E, N, S, W
+abbrev pub noLetter : ℕ → ℕ → Bool
+noLetter i x = isOther (named x)
+
 -- 11: some letter is not one of E, N, S, W
 unfoldable pub someOther : List ℕ → Bool
-someOther xs = some (λ i x. isOther (named x)) 0 xs
+someOther xs = some noLetter 0 xs
 
 -- the hops that letters name, up to the first that names none
 unfoldable pub hopBy : Letter → List Heading → List Heading

@@ -9,6 +9,7 @@ use Rattle.mesh.specs.Headings.{lastIs, code, direction}
 use Rattle.theory_legs.specs.Groups.{numberBytes, Found, fault, found, andThen, readNumber}
 use Rattle.theory_legs.specs.Legs.{Leg, leg}
 
+-- the number of a leg
 unfoldable pub legNumber : Leg → ℕ
 legNumber l = (l .length - 1) * 4 + code (l .heading)
 
@@ -16,10 +17,12 @@ legNumber l = (l .length - 1) * 4 + code (l .heading)
 unfoldable pub legOf : ℕ → Leg
 legOf n = leg (direction (n % 4)) (n / 4 + 1)
 
+-- the numbers of legs, one after another
 unfoldable pub legBytes : List Leg → List ℕ
 legBytes [] = []
 legBytes (l ∷ ls) = numberBytes (legNumber l) ++ legBytes ls
 
+-- the file of legs
 unfoldable pub file : List Leg → List ℕ
 file ls = numberBytes (length ls) ++ legBytes ls
 
@@ -43,5 +46,6 @@ unfoldable pub allRead : List Leg → List ℕ → Found (List Leg)
 allRead ls [] = found ls []
 allRead ls (x ∷ xs) = fault 22
 
+-- the legs of a file
 unfoldable pub readFile : List ℕ → Found (List Leg)
 readFile xs = andThen (andThen (readNumber xs) λ k rest. readLegs k none rest) allRead

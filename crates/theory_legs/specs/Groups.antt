@@ -12,6 +12,7 @@ groups (suc k) n =
     let more = (128 + n % 128) ∷ groups k (n / 128) in
     cond (ltb n 128) (n ∷ []) more
 
+-- a number as bytes
 unfoldable pub numberBytes : ℕ → List ℕ
 numberBytes n = groups 3 n
 

@@ -6,6 +6,7 @@ use lib.ListN.{replicate}
 use Rattle.mesh.specs.declared.Heading.{Heading}
 use Rattle.mesh.specs.Headings.{same}
 
+-- a straight leg
 pub record Leg : Type 0 where
   pub heading : Heading
   pub length : ℕ

@@ -20,7 +20,7 @@ use Rattle.mesh.proofs.Some.{none-passes}
 use Rattle.mesh.proofs.Headings.{letter-named, is-hop, is-other, name, same-heading}
 use Rattle.runs.specs.Equal.{Run}
 use Rattle.theory_legs.specs.Legs.{Leg, leg, legs}
-use Rattle.theory_legs.specs.Converting.{hopBy, hopsNamed, isOther, someOther}
+use Rattle.theory_legs.specs.Converting.{hopBy, hopsNamed, isOther, noLetter, someOther}
 use Rattle.theory_legs.specs.Claims.{Straight}
 use Rattle.theory_legs.proofs.Legs.{legs-run, turn-straight}
 
@@ -48,7 +48,7 @@ letter-at xs i e h =
     elim (name (getD xs i 0)) [
       | is-hop g s ↦ record { heading = g; is-letter = s }
       | is-other n ↦
-          let passes = none-passes (λ j x. isOther (named x)) 0 xs e i h in
+          let passes = none-passes noLetter 0 xs e i h in
           let c : true ≡ false = rw n at passes in
           true-false refl c
     ]

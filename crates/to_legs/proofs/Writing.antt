@@ -1,5 +1,5 @@
 -- The file of letters written leg by leg. Assumes nothing.
-use mathlib.Core.Path.{_≡_, refl, sym, _∙_}
+use mathlib.Core.Path.{_≡_, refl, sym, ap, _∙_}
 use mathlib.Core.Bool.{false}
 use mathlib.Core.List.{List, _∷_}
 use Prim.Native.Nat.{ℕ, _+_, _-_, _*_, _≤_, _<_}
@@ -64,7 +64,7 @@ writing-none w =
     record { within = omega arith; all = refl; no-other = w .no-other; short = w .short; size = refl; room = w .room; leads = refl }
 
 -- the leg from index i to before index j, and its direction's code k
-pub record LegHere (xs : List ℕ) (i j k : ℕ) : Type 0 where
+record LegHere (xs : List ℕ) (i j k : ℕ) : Type 0 where
   pub heading : Heading
   pub first : legsFrom xs i ≡ leg heading (j - i) ∷ legsFrom xs j
   pub coded : k ≡ code heading
@@ -72,7 +72,7 @@ pub record LegHere (xs : List ℕ) (i j k : ℕ) : Type 0 where
 
 module _ {xs : List ℕ} {n first : ℕ} {out : List ℕ} {i at : ℕ} {now : List ℕ} (w : Writing xs n first out i at now) where
   module _ {j k : ℕ} (inside : i < n) (e : Codes (getD xs i 0) k) (r : Run xs i j) where
-    pub leg-here : LegHere xs i j k
+    leg-here : LegHere xs i j k
     unfolding someLong
     leg-here =
         let letter-here = letter-at xs i (w .no-other) (omega (arith, w .all)) in
@@ -84,31 +84,39 @@ module _ {xs : List ℕ} {n first : ℕ} {out : List ℕ} {i at : ℕ} {now : Li
           short = ltb-false 16384 (j - i) (or-none (ltb 16384 (j - i)) (someLong (legsFrom xs j)) (rw leg-first at (w .short)) .0);
         }
 
-    pub number-fits : (((j - i - 1) * 4 + k) ≤ 65535) × ((at + length (numberBytes ((j - i - 1) * 4 + k))) ≤ length now)
-    unfolding legBytes legNumber
-    number-fits =
-        let h = leg-here in
-        let room = rw (h .first) at (w .room) in
-        let sized = length-append (numberBytes ((j - i - 1) * 4 + code (h .heading))) (legBytes (legsFrom xs j)) in
-        rw (h .coded) (omega (arith, h .short, code-few (h .heading)), omega arith)
+    pub leg-fits : (1 ≤ j - i) × (j - i ≤ 16384) × (k < 4)
+    leg-fits = let h = leg-here in (omega (arith, r .begun), h .short, rw (h .coded) (code-few (h .heading)))
 
-    pub writing-more : {at′ : ℕ} {now′ : List ℕ} → Puts now at (numberBytes ((j - i - 1) * 4 + k)) at′ now′ → Writing xs n first out j at′ now′
-    unfolding legBytes legNumber someLong
-    writing-more {at′} {now′} p =
-        let h = leg-here in
-        let q = rw (h .coded) at p in
-        let bytes = numberBytes ((j - i - 1) * 4 + code (h .heading)) in
-        let room-here = rw (h .first) at (w .room) in
-        let same-size : length now′ ≡ length now = rw (q .stands) (over-length now at bytes) in
-        record {
-          within = omega (arith, r .within, w .all);
-          all = w .all;
-          no-other = w .no-other;
-          short = or-none (ltb 16384 (j - i)) (someLong (legsFrom xs j)) (rw (h .first) at (w .short)) .1;
-          size = same-size ∙ w .size;
-          room = omega (arith, length-append bytes (legBytes (legsFrom xs j)), q .next);
-          leads = rw (q .stands, q .next) (sym (over-append now at bytes (legBytes (legsFrom xs j)))) ∙ rw (h .first) at (w .leads);
-        }
+    -- the leg's number
+    module _ {m : ℕ} (numbered : m ≡ (j - i - 1) * 4 + k) where
+      is-number : m ≡ legNumber (leg (leg-here .heading) (j - i))
+      unfolding legNumber
+      is-number = numbered ∙ ap (λ c. (j - i - 1) * 4 + c) (leg-here .coded)
+
+      pub number-fits : (m ≤ 65535) × (at + length (numberBytes m) ≤ length now)
+      unfolding legBytes
+      number-fits =
+          let h = leg-here in
+          let few = leg-fits in
+          let room = rw (h .first, ← is-number) at (w .room) in
+          (omega arith, omega (arith, length-append (numberBytes m) (legBytes (legsFrom xs j))))
+
+      pub writing-more : {at′ : ℕ} {now′ : List ℕ} → Puts now at (numberBytes m) at′ now′ → Writing xs n first out j at′ now′
+      unfolding legBytes someLong
+      writing-more {at′} {now′} p =
+          let h = leg-here in
+          let room-here = rw (h .first, ← is-number) at (w .room) in
+          let leads-here = rw (h .first, ← is-number) at (w .leads) in
+          let same-size : length now′ ≡ length now = rw (p .stands) (over-length now at (numberBytes m)) in
+          record {
+            within = omega (arith, r .within, w .all);
+            all = w .all;
+            no-other = w .no-other;
+            short = or-none (ltb 16384 (j - i)) (someLong (legsFrom xs j)) (rw (h .first) at (w .short)) .1;
+            size = same-size ∙ w .size;
+            room = omega (arith, length-append (numberBytes m) (legBytes (legsFrom xs j)), p .next);
+            leads = rw (p .stands, p .next) (sym (over-append now at (numberBytes m) (legBytes (legsFrom xs j)))) ∙ leads-here;
+          }
 
   pub writing-all : n ≤ i → now ≡ over out first (legBytes (legsOf xs))
   unfolding legsFrom hopsNamed legs legBytes over

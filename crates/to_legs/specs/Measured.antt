@@ -16,6 +16,7 @@ pub record LegSize (n x : ℕ) : Type 0 where
   pub bytes : (h : Heading) → length (numberBytes (legNumber (leg h n))) ≡ x
   pub shorter : x ≤ n
 
+-- what is measured of their legs
 pub record Measures (xs : List ℕ) (x : Measured) : Type 0 where
   pub longs : someLong (legsOf xs) ≡ x .long
   pub counts : length (legsOf xs) ≡ x .legs

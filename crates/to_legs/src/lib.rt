@@ -1,7 +1,7 @@
 // Letters to legs (document 02, E3): all letters are looked through and their legs measured; once nothing is refused the file is written.
 ghost use mathlib.Core.Path.{_≡_};
 ghost use mathlib.Core.Bool.{false, _||_};
-ghost use Prim.Native.Nat.{_≤_};
+ghost use Prim.Native.Nat.{_≤_, _<_, _+_, _-_, _*_};
 ghost use lib.ListN.{length};
 ghost use Rattle.mesh.specs.Headings.{named};
 ghost use Rattle.buffers.specs.Over.{over};
@@ -95,6 +95,14 @@ fn measure_legs(letters: &[u8]) -> Measured
     Measured { long, legs, bytes }
 }
 
+// A leg's number, by its length and its direction's code.
+fn leg_number(length: usize, code: u32) -> u32
+    requires { ⌜ (1 ≤ length) × (length ≤ 16384) × (code < 4) ⌝ }
+    ensures { λ n. ⌜ n ≡ (length - 1) * 4 + code ⌝ }
+{
+    ((length - 1) * 4) as u32 + code
+}
+
 // Writes the legs of letters from index first on.
 fn write_legs(letters: &[u8], first: usize, out: &mut [u8])
     requires { ⌜ LegsWritable (now letters) first (now out) ⌝ }
@@ -106,7 +114,7 @@ fn write_legs(letters: &[u8], first: usize, out: &mut [u8])
     while i < n {
         let code = letter_code(letters[i]);
         let end = run_end(letters, i);
-        at = put_number(out, at, ((end - i - 1) * 4) as u32 + code);
+        at = put_number(out, at, leg_number(end - i, code));
         i = end;
     }
 }

@@ -2,14 +2,13 @@
 use Prim.Native.Nat.{_-_}
 use mathlib.Core.Path.{refl}
 use native.Mathlib.Omega.{arith}
-use Rattle.mesh.specs.Headings.{named}
 use Rattle.mesh.proofs.Some.{Gathered, gathered-none, gathered-more, gathered-all}
-use Rattle.theory_legs.specs.Converting.{isOther, someOther}
+use Rattle.theory_legs.specs.Converting.{noLetter, someOther}
 use Rattle.to_legs.proofs.has_other.Statement.{statement}
 use Rattle.to_legs.proofs.has_other.Tie as tie
 
 abbrev Inv-loop : tie.InvT-loop
-Inv-loop letters n other₀ i₀ other i = Gathered (λ j x. isOther (named x)) letters n i other
+Inv-loop letters n other₀ i₀ other i = Gathered noLetter letters n i other
 
 abbrev μ-loop : tie.MeasureT-loop
 μ-loop letters n other₀ i₀ other i = n - i

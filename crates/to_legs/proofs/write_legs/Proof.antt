@@ -1,7 +1,7 @@
 -- The legs before i are written. Assumes nothing.
 use Prim.Native.Nat.{_-_}
 use native.Mathlib.Omega.{arith}
-use Rattle.to_legs.proofs.Writing.{Writing, writing-none, leg-here, number-fits, writing-more, writing-all}
+use Rattle.to_legs.proofs.Writing.{Writing, writing-none, leg-fits, number-fits, writing-more, writing-all}
 use Rattle.to_legs.proofs.write_legs.Statement.{statement}
 use Rattle.to_legs.proofs.write_legs.Tie as tie
 
@@ -23,50 +23,35 @@ letter-code-requires c κs = tt
 run-end-requires : tie.Need-run-end-requires Inv-loop μ-loop
 run-end-requires c κs = omega arith
 
-sub-put-number : tie.Need-sub-put-number Inv-loop μ-loop
-sub-put-number c = omega arith
+sub-leg-number : tie.Need-sub-leg-number Inv-loop μ-loop
+sub-leg-number c = omega arith
 
-sub-put-number-2 : tie.Need-sub-put-number-2 Inv-loop μ-loop
-sub-put-number-2 c = omega arith
-
-mul-put-number : tie.Need-mul-put-number Inv-loop μ-loop
-mul-put-number c =
+leg-number-requires : tie.Need-leg-number-requires Inv-loop μ-loop
+leg-number-requires c κs =
     let at-run = c .before in
     let at-code = at-run .before in
     let at-loop = at-code .before .before .before in
-    omega (arith, leg-here (at-loop .loop .inv) (omega arith) (at-code .letter-code .ensures) (at-run .run-end .ensures) .short)
-
-cast-put-number : tie.Need-cast-put-number Inv-loop μ-loop
-cast-put-number c =
-    let at-run = c .before in
-    let at-code = at-run .before in
-    let at-loop = at-code .before .before .before in
-    omega (arith, leg-here (at-loop .loop .inv) (omega arith) (at-code .letter-code .ensures) (at-run .run-end .ensures) .short)
-
-add-put-number : tie.Need-add-put-number Inv-loop μ-loop
-add-put-number c =
-    let at-run = c .before in
-    let at-code = at-run .before in
-    let at-loop = at-code .before .before .before in
-    omega (arith, number-fits (at-loop .loop .inv) (omega arith) (at-code .letter-code .ensures) (at-run .run-end .ensures))
+    leg-fits (at-loop .loop .inv) (omega arith) (at-code .letter-code .ensures) (at-run .run-end .ensures)
 
 put-number-requires : tie.Need-put-number-requires Inv-loop μ-loop
 put-number-requires c κs =
-    let at-run = c .before in
+    let at-run = c .before .before in
     let at-code = at-run .before in
     let at-loop = at-code .before .before .before in
-    number-fits (at-loop .loop .inv) (omega arith) (at-code .letter-code .ensures) (at-run .run-end .ensures)
+    number-fits (at-loop .loop .inv) (omega arith) (at-code .letter-code .ensures) (at-run .run-end .ensures) (c .leg-number .ensures)
 
 loop-less : tie.Need-loop-less Inv-loop μ-loop
-loop-less c = omega (arith, c .before .before .before .before .run-end .ensures)
+loop-less c = omega (arith, c .before .before .before .before .before .run-end .ensures)
 
 loop-again : tie.Need-loop-again Inv-loop μ-loop
 loop-again c =
     let at-put = c .before .before in
-    let at-run = at-put .before .before in
+    let at-number = at-put .before in
+    let at-run = at-number .before .before in
     let at-code = at-run .before in
     let at-loop = at-code .before .before .before in
-    writing-more (at-loop .loop .inv) (omega arith) (at-code .letter-code .ensures) (at-run .run-end .ensures) (at-put .put-number .ensures)
+    writing-more (at-loop .loop .inv) (omega arith) (at-code .letter-code .ensures) (at-run .run-end .ensures) (at-number .leg-number .ensures)
+    (at-put .put-number .ensures)
 
 same-length : tie.Need-same-length Inv-loop μ-loop
 same-length c = omega arith
@@ -84,11 +69,8 @@ write-legs-spec =
     shared-slice-read-letter-code
     letter-code-requires
     run-end-requires
-    sub-put-number
-    sub-put-number-2
-    mul-put-number
-    cast-put-number
-    add-put-number
+    sub-leg-number
+    leg-number-requires
     put-number-requires
     loop-less
     loop-again
