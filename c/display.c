@@ -69,7 +69,9 @@ int main(void) {
         printf("%s: %u, rule %d, index %llu\n", hand_ins[i], (unsigned)wrong, rule, (unsigned long long)index[0]);
     }
 
-    /* Refused: the destination is on a ring. */
+    /* To the row above the block, which is served; to the block's side, which is refused. */
+    hops = pinduguil_route(COLUMNS, ROWS, map, sizeof map, 1, 5, 5, 4, letters, sizeof letters);
+    printf("ok %u %.*s\n", (unsigned)hops, (int)hops, (const char *)letters);
     uint32_t refused = pinduguil_route(COLUMNS, ROWS, map, sizeof map, 1, 1, 4, 6, letters, sizeof letters);
     printf("no %u\n", (unsigned)(refused - PINDUGUIL_REFUSED));
     return 0;

@@ -10,7 +10,7 @@
  * Refusals, in the order in which they are tested:
  *   1 columns not 1 to 64            6 source or destination off the mesh
  *   2 rows not 1 to 64               7 source or destination in a block
- *   3 map length not columns * rows  8 destination on a ring
+ *   3 map length not columns * rows  8 a block near the destination in its row: a node of one, 1 or 2 columns away
  *   4 a map byte above 1             9 a hop by the rules would be unlawful
  *   5 a fault where none is allowed  10 the output is too short
  * A table of sends as a whole is refused by 1 to 5, then by

@@ -41,9 +41,10 @@ fn main() {
         println!("{} to ({}, {})", letter as char, packet.place.row, packet.place.column);
     }
 
-    let ring = Place { row: 4, column: 6 };
+    let side = Place { row: 4, column: 6 };
+    let above = Place { row: 5, column: 4 };
     let (west, east) = (Place { row: 3, column: 0 }, Place { row: 3, column: 9 });
-    let sends = [[source, destination], [west, east], [west, ring], [east, Place { row: 3, column: 8 }]];
+    let sends = [[source, destination], [west, east], [west, side], [east, Place { row: 3, column: 8 }]];
     let mut answers = [0; 4];
     let mut room = vec![0; sends.len() * MOST_HOPS];
     for out in [&mut room[..], &mut [0; 12]] {
@@ -59,7 +60,8 @@ fn main() {
     }
     println!("{:?}", mesh.route_batch(&sends, &mut answers[..3], &mut room).err());
 
-    println!("{:?}", mesh.route(source, ring, &mut out));
+    println!("{:?}", mesh.route(source, side, &mut out));
+    println!("{:?}", mesh.route(source, above, &mut out).map(String::from_utf8_lossy));
     println!("{:?}", Mesh { columns: 65, ..mesh }.mark(&mut marks));
     println!("{:?}", mesh.judge(Place { row: 3, column: 5 }, destination, b"N"));
     println!("{:?}", mesh.judge(source, destination, b"NX"));

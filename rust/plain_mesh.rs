@@ -169,15 +169,15 @@ impl Mesh {
     /// Refusals 6 to 8.
     fn check_request(&self, source: Place, destination: Place) -> Result<(), u32> {
         self.check_places(source, destination)?;
-        if self.is_near_block(node(destination)) {
+        if self.is_block_near_in_row(node(destination)) {
             return Err(8);
         }
         Ok(())
     }
 
-    /// Whether a node is in a block or on a ring.
-    fn is_near_block(&self, (r, c): Node) -> bool {
-        (r - 1..=r + 1).any(|r| (c - 2..=c + 2).any(|c| self.is_bad((r, c))))
+    /// Whether a node in the row, one or two columns away, is in a block.
+    fn is_block_near_in_row(&self, (r, c): Node) -> bool {
+        [c - 2, c - 1, c + 1, c + 2].into_iter().any(|c| self.is_bad((r, c)))
     }
 }
 

@@ -18,7 +18,7 @@ pub struct Mesh {
     across: [u64; 66],
     /// the bad nodes of column c at c + 2, a bit for each row; two empty columns before and after
     down: [u64; 68],
-    /// of each row, the nodes in a block or on a ring
+    /// of each row, the nodes one or two columns from a bad one
     near: [u64; 64],
 }
 
@@ -48,8 +48,7 @@ impl Mesh {
             for c in 0..columns {
                 mesh.down[c + 2] |= (mesh.across[r + 1] >> c & 1) << r;
             }
-            let three = mesh.across[r] | mesh.across[r + 1] | mesh.across[r + 2];
-            mesh.near[r] = three | beside(three);
+            mesh.near[r] = beside(mesh.across[r + 1]);
         }
         Some(mesh)
     }

@@ -114,7 +114,7 @@ pub fn coordinate(rng: &mut Random, n: u32) -> u32 {
     }
 }
 
-/// Anywhere, or just east or west of a block, or on its ring or next to it.
+/// Anywhere, or on the ring of a block or next to that.
 pub fn place(rng: &mut Random, case: &Case) -> Place {
     if !case.blocks.is_empty() && rng.one_in(4) {
         let b = case.blocks[rng.below(case.blocks.len())];

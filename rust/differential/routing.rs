@@ -1,7 +1,7 @@
 //! Route.
 use crate::inputs::Case;
 use crate::lent::{self, differs, met, start, start_mut, Compared};
-use crate::plain_mesh::{self, after, node, Node, Place, REFUSED};
+use crate::plain_mesh::{self, after, node, Block, Node, Place, REFUSED};
 use crate::random::Random;
 use crate::wrapper::raw::{self, library};
 use crate::wrapper::MOST_HOPS;
@@ -12,22 +12,21 @@ pub struct Routing {
     nulls: [u64; 2],    // map, output
     hops: u64,
     longest: usize,
+    ring_rows: [u64; 2], // routes to a ring's place south of its block, north of it
 }
 
-fn is_on_ring(case: &Case, (r, c): Node) -> bool {
-    case.blocks.iter().any(|b| {
-        let inside = b[0] <= r && r <= b[1] && b[2] <= c && c <= b[3];
-        !inside && b[0] - 1 <= r && r <= b[1] + 1 && b[2] - 2 <= c && c <= b[3] + 2
-    })
+/// Whether a block has a node in the row, one or two columns away.
+fn is_near_in_row(b: &Block, (r, c): Node) -> bool {
+    b[0] <= r && r <= b[1] && (b[2]..=b[3]).any(|x| (1..=2).contains(&(x - c).abs()))
 }
 
-/// The letters of a route, or its refusal, in another way than the plain mesh finds them: 8 ring by ring, and 9 by walking the hops, each of
+/// The letters of a route, or its refusal, in another way than the plain mesh finds them: 8 block by block, and 9 by walking the hops, each of
 /// which is tested.
 pub fn walk(case: &Case, source: Place, destination: Place) -> Result<Vec<u8>, u32> {
     let mesh = case.mesh.as_ref().map_err(|why| *why)?;
     mesh.check_places(source, destination)?;
     let (mut at, to) = (node(source), node(destination));
-    if is_on_ring(case, to) {
+    if case.blocks.iter().any(|b| is_near_in_row(b, to)) {
         return Err(8);
     }
     let (mut last, mut letters) = (0, vec![]);
@@ -81,13 +80,18 @@ impl Routing {
         if answer < REFUSED {
             self.hops += n as u64;
             self.longest = self.longest.max(n);
+            let (r, c) = node(d);
+            for b in case.blocks.iter().filter(|b| b[2] - 2 <= c && c <= b[3] + 2) {
+                self.ring_rows[0] += u64::from(r == b[0] - 1);
+                self.ring_rows[1] += u64::from(r == b[1] + 1);
+            }
         }
     }
 
     /// Prints counts, and says whether every answer and every null pointer was met.
     pub fn report(&self) -> bool {
         println!("route: answered, refusals 1 to 10: {:?}; null for map, output: {:?}", self.answers, self.nulls);
-        println!("    {} hops, {} in the longest", self.hops, self.longest);
-        met(&self.answers, 0..11) && met(&self.nulls, 0..2)
+        println!("    {} hops, {} in the longest; to rings south, north of a block: {:?}", self.hops, self.longest, self.ring_rows);
+        met(&self.answers, 0..11) && met(&self.nulls, 0..2) && met(&self.ring_rows, 0..2)
     }
 }

@@ -1,4 +1,4 @@
-// The blocks of a marking: their number and their rings.
+// The blocks of a marking: their number, and whether one is near.
 ghost use mathlib.Core.Path.{_≡_};
 ghost use mathlib.Core.Bool.{false, _||_};
 ghost use Prim.Native.Nat.{_<_, _*_, _/_, _%_};
@@ -7,8 +7,7 @@ ghost use Rattle.mesh.specs.declared.Heading.the-variants.{East, West};
 ghost use Rattle.mesh.specs.Mesh.{mesh};
 ghost use Rattle.mesh.specs.Nodes.{bad, ahead};
 ghost use Rattle.mesh.specs.Blocks.{corner, blocks};
-ghost use Rattle.mesh.specs.Requests.{offMesh, inBlock, onARing};
-ghost use Rattle.theory_blocks.proofs.Near.{rowNear};
+ghost use Rattle.mesh.specs.Requests.{offMesh, blockNearInRow};
 ghost use Rattle.nodes.specs.Sized.{Sized, OnMesh};
 ghost use Rattle.blocks.specs.Marking.{Marking};
 use mesh::Column;
@@ -16,7 +15,6 @@ use mesh::Heading;
 use mesh::Place;
 use mesh::Row;
 use nodes::is_bad_ahead;
-use nodes::is_bad_node;
 
 // Whether a block has its south-west corner at index i.
 fn is_corner(columns: u32, rows: u32, marks: &[u8], i: u32) -> bool
@@ -62,38 +60,13 @@ fn is_bad_beside(columns: u32, rows: u32, marks: &[u8], r: Row, c: Column, k: u3
     is_bad_ahead(columns, rows, marks, r, c, Heading::West, k)
 }
 
-// Whether a node of row r, at most two columns from c, is bad. No node of a row beyond the mesh is.
-fn is_row_near(columns: u32, rows: u32, marks: &[u8], r: Row, c: Column) -> bool
-    requires { ⌜ Sized columns rows (now marks) × (c .0 < columns) ⌝ }
-    ensures { λ x. ⌜ x ≡ rowNear (bad (mesh columns rows (now (marks .entry)))) (r .0) (c .0) ⌝ }
+// Refusal 8 for one place: some block has a node in its row, one or two columns away. A look at four nodes.
+pub fn is_block_near_in_row(columns: u32, rows: u32, marks: &[u8], p: Place) -> bool
+    requires { ⌜ Marking columns rows (now marks) × (offMesh (mesh columns rows (now marks)) p ≡ false) ⌝ }
+    ensures { λ x. ⌜ x ≡ blockNearInRow (mesh columns rows (now (marks .entry))) p ⌝ }
 {
-    if rows <= r.0 {
-        return false;
-    }
-    if is_bad_node(columns, rows, marks, r, c) {
+    if is_bad_beside(columns, rows, marks, p.row, p.column, 1) {
         return true;
     }
-    if is_bad_beside(columns, rows, marks, r, c, 1) {
-        return true;
-    }
-    is_bad_beside(columns, rows, marks, r, c, 2)
-}
-
-// Whether the place, in no block, lies on a ring. A look at the 3 × 5 places round it.
-pub fn is_on_ring(columns: u32, rows: u32, marks: &[u8], p: Place) -> bool
-    requires { ⌜ Marking columns rows (now marks) × (offMesh (mesh columns rows (now marks)) p ≡ false) × (inBlock (mesh columns rows (now marks)) p ≡ false) ⌝ }
-    ensures { λ x. ⌜ x ≡ onARing (mesh columns rows (now (marks .entry))) p ⌝ }
-{
-    let row = p.row.0;
-    let c = p.column;
-    if is_row_near(columns, rows, marks, Row(row), c) {
-        return true;
-    }
-    if is_row_near(columns, rows, marks, Row(row + 1), c) {
-        return true;
-    }
-    if row < 1 {
-        return false;
-    }
-    is_row_near(columns, rows, marks, Row(row - 1), c)
+    is_bad_beside(columns, rows, marks, p.row, p.column, 2)
 }

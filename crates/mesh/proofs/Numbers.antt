@@ -4,7 +4,7 @@ use mathlib.Core.List.{List}
 use Prim.Native.Nat.{ℕ, zero, suc, pred, _≤_}
 use native.Mathlib.Omega.{arith}
 use Rattle.mesh.specs.declared.Refusal.{Refusal}
-use Rattle.mesh.specs.declared.Refusal.the-variants.{Columns, Rows, MapLength, MapByte, FaultPlace, OffMesh, InBlock, OnRing, Unlawful, Room}
+use Rattle.mesh.specs.declared.Refusal.the-variants.{Columns, Rows, MapLength, MapByte, FaultPlace, OffMesh, InBlock, BlockNearInRow, Unlawful, Room}
 use Rattle.mesh.specs.declared.Mistake.{Mistake}
 use Rattle.mesh.specs.declared.Mistake.the-variants.{NoLetter, LeavesMesh, Reverses, BreaksRule1, BreaksRule2, EntersBlock, NotArrived}
 use Rattle.mesh.specs.Numbers.{number, mistakeNumber, refused, answer, answerRefusal, written}
@@ -17,7 +17,7 @@ number-some MapByte = refl
 number-some FaultPlace = refl
 number-some OffMesh = refl
 number-some InBlock = refl
-number-some OnRing = refl
+number-some BlockNearInRow = refl
 number-some Unlawful = refl
 number-some Room = refl
 
@@ -29,7 +29,7 @@ number-few MapByte = omega arith
 number-few FaultPlace = omega arith
 number-few OffMesh = omega arith
 number-few InBlock = omega arith
-number-few OnRing = omega arith
+number-few BlockNearInRow = omega arith
 number-few Unlawful = omega arith
 number-few Room = omega arith
 

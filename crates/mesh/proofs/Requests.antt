@@ -7,7 +7,7 @@ use lib.Dec.{ltb}
 use Rattle.mesh.specs.declared.Place.{Place}
 use Rattle.mesh.specs.Mesh.{Mesh, onMesh}
 use Rattle.mesh.specs.Tests.{first}
-use Rattle.mesh.specs.Requests.{offMesh, inBlock, onARing, unserved, placeTests, tripTests, requestTests}
+use Rattle.mesh.specs.Requests.{offMesh, inBlock, blockNearInRow, unserved, placeTests, tripTests, requestTests}
 use Rattle.mesh.proofs.Bools.{and-both, or-none}
 use Rattle.mesh.proofs.Tests.{numbered, None, clear-before, first-none}
 
@@ -31,7 +31,7 @@ pub record Placed (w : Mesh) (s d : Place) : Type 0 where
 -- a request that refusals 6 to 9 let pass
 pub record Request (w : Mesh) (s d : Place) : Type 0 where
   pub placed : Placed w s d
-  pub off-rings : onARing w d ≡ false
+  pub row-clear : blockNearInRow w d ≡ false
   pub served : unserved w s d ≡ false
 
 module _ (w : Mesh) (s d : Place) where
@@ -58,5 +58,5 @@ module _ (w : Mesh) (s d : Place) where
   pub request : first (requestTests w s d) ≡ 0 → Request w s d
   unfolding None requestTests tripTests placeTests
   request h =
-      let (off, (within, (ring, (shut, _)))) = first-none _ request-numbered h in
-      record { placed = placed (clear-before (placeTests w s d) _ h); off-rings = ring; served = shut }
+      let (off, (within, (near, (shut, _)))) = first-none _ request-numbered h in
+      record { placed = placed (clear-before (placeTests w s d) _ h); row-clear = near; served = shut }

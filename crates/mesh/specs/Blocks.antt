@@ -55,10 +55,15 @@ unfoldable pub reaches : ℕ → ℕ → Block → ℕ → ℕ → Bool
 reaches i j b r c =
     (leb (b .row) (r + i) && ltb r (b .height + b .row + i)) && (leb (b .column) (c + j) && ltb c (b .width + b .column + j))
 
+-- (r, c) is a node of b
+abbrev pub within : Block → ℕ → ℕ → Bool
+within b r c = reaches 0 0 b r c
+
 -- b's ring: all places outside it, from one row below to one row above, and from two columns west to two columns east
 unfoldable pub onRing : Block → ℕ → ℕ → Bool
-onRing b r c = reaches 1 2 b r c && not (reaches 0 0 b r c)
+onRing b r c = reaches 1 2 b r c && not (within b r c)
 
-unfoldable pub onSomeRing : List Block → ℕ → ℕ → Bool
-onSomeRing [] r c = false
-onSomeRing (b ∷ bs) r c = onRing b r c || onSomeRing bs r c
+-- some block of a list passes a test
+unfoldable pub someBlock : (Block → Bool) → List Block → Bool
+someBlock t [] = false
+someBlock t (b ∷ bs) = t b || someBlock t bs

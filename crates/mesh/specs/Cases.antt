@@ -1,5 +1,5 @@
--- The starred bench cases of document 01, on 10 columns by 8 rows, in one list with one claim; and in another what judging says of turns.
--- Assumes nothing.
+-- The starred bench cases of document 01, on 10 columns by 8 rows, and the one of document 02, E4, in one list with one claim; and in others of
+-- their own what judging says of turns, and which destinations near a block are refused. Assumes nothing.
 use mathlib.Core.Bool.{Bool, true, _&&_}
 use mathlib.Core.List.{List, [], _∷_}
 use Prim.Native.Nat.{ℕ, _+_, _-_, _*_}
@@ -7,22 +7,22 @@ use Prim.Native.String as Text
 use Prim.Native.String.{String}
 use Prim.Native.Char.{code}
 use lib.Dec.{T, eqb}
-use lib.ListN.{set, replicate}
+use lib.ListN.{length, set, replicate}
 use Rattle.mesh.specs.Mesh as places
 use Rattle.mesh.specs.Mesh.{mesh, onMesh}
 use Rattle.mesh.specs.declared.Place.{Place}
 use Rattle.mesh.specs.Headings.{rowAfter, columnAfter, opposite, letters, same, named}
 use Rattle.mesh.specs.Parity.{turnsWest}
 use Rattle.mesh.specs.Tests.{first}
-use Rattle.mesh.specs.Nodes.{isBad, bad, ahead, upright, ruleA, ruleB, unsafe}
+use Rattle.mesh.specs.Nodes.{isBad, bad, ahead, upright, ruleA, ruleB, unsafe, nearInRow}
 use Rattle.mesh.specs.Rounds.{become, advance, round, sameList, settle, marked}
-use Rattle.mesh.specs.Blocks.{Block, run, corner, blockAt, select, blocks, reaches, onRing, onSomeRing}
+use Rattle.mesh.specs.Blocks.{Block, run, corner, blockAt, select, blocks, reaches, onRing, someBlock}
 use Rattle.mesh.specs.Turns.{breaks, turnBreaks, hopBreaks, reverses, turnsBack}
-use Rattle.mesh.specs.Rules.{blocked, side, toward, own, stopped, again, atDestination, inRow, leaving, across, nearing, otherRow, hop}
-use Rattle.mesh.specs.Hops.{moved, stays}
+use Rattle.mesh.specs.Rules.{blocked, side, toward, own, stopped, again, atDestination, inRow, leaving, across, nearing, otherRow, hop, tripOn}
+use Rattle.mesh.specs.Hops.{moved, stays, fresh}
 use Rattle.mesh.specs.Walk.{arrived, hopAt, walk, shutIn, distance, detours, bound}
 use Rattle.mesh.specs.Maps.{badSize, badLength, some, badByte, allowed, misplacedAt, misplaced, mapTests}
-use Rattle.mesh.specs.Requests.{offMesh, inBlock, onARing, unserved, placeTests, tripTests, requestTests}
+use Rattle.mesh.specs.Requests.{offMesh, inBlock, blockNearInRow, unserved, placeTests, tripTests, requestTests}
 use Rattle.mesh.specs.Routing.{hopsOf, sendTests, routeRefusal}
 use Rattle.mesh.specs.Judging.{hopTests, letterMistake, follow, Verdict, unless, judge, verdictCode, verdictIndex, judgeFrom, judgement}
 
@@ -38,6 +38,10 @@ pub data Case : Type 0 where
   routes : List (ℕ × ℕ) → ℕ × ℕ → ℕ × ℕ → String → Case
   -- the faults, source, destination, and the number of the refusal
   refuses : List (ℕ × ℕ) → ℕ × ℕ → ℕ × ℕ → ℕ → Case
+  -- the faults, and a place on a ring
+  rings : List (ℕ × ℕ) → ℕ × ℕ → Case
+  -- the faults, source, destination, and the first hops by the rules, whether they are lawful or not
+  walks : List (ℕ × ℕ) → ℕ × ℕ → ℕ × ℕ → String → Case
   -- the faults, source, destination, the letters of a hand-in, and its verdict: 0 or the number of what is wrong, the length or the index
   judges : List (ℕ × ℕ) → ℕ × ℕ → ℕ × ℕ → String → ℕ → ℕ → Case
 
@@ -64,6 +68,9 @@ holds (makes faults expect) = sameList (edges (blocks (marked (mesh 10 8 (faultM
 holds (routes faults s d expect) =
     eqb (refusal faults s d) 0 && sameList (letters (hopsOf (marked (mesh 10 8 (faultMap faults))) (place s) (place d))) (bytes expect)
 holds (refuses faults s d expect) = eqb (refusal faults s d) expect
+holds (rings faults p) = someBlock (λ b. onRing b (p .0) (p .1)) (blocks (marked (mesh 10 8 (faultMap faults))))
+holds (walks faults s d expect) =
+    sameList (letters (walk (length (bytes expect)) (tripOn (marked (mesh 10 8 (faultMap faults))) (place d)) (fresh (place s)))) (bytes expect)
 holds (judges faults s d text k i) = eqb (verdictCode (verdict faults s d text)) k && eqb (verdictIndex (verdict faults s d text)) i
 
 unfoldable pub allHold : List Case → Bool
@@ -79,6 +86,9 @@ B = (4, 4) ∷ []
 unfoldable pub C : List (ℕ × ℕ)
 C = (3, 3) ∷ (3, 6) ∷ []
 
+unfoldable pub D : List (ℕ × ℕ)
+D = (4, 3) ∷ []
+
 unfoldable pub starred : List Case
 starred =
     makes A (3 ∷ 4 ∷ 4 ∷ 5 ∷ []) ∷
@@ -93,13 +103,14 @@ starred =
     routes C (3, 0) (3, 9) "ENEEEESSEENEE" ∷
     refuses B (4, 5) (6, 5) 9 ∷
     routes B (4, 5) (4, 9) "EEEE" ∷
+    routes A (1, 5) (5, 4) "WNWWNNNEE" ∷
     []
 
 pub starred-hold : T (allHold starred)
 unfolding starred allHold holds A B C refusal bytes edges onMesh rowAfter columnAfter letters turnsWest first isBad bad ahead
-    upright ruleA ruleB unsafe become advance round sameList settle run corner blockAt select blocks reaches onRing onSomeRing
+    upright ruleA ruleB unsafe become advance round sameList settle run corner blockAt select blocks reaches someBlock nearInRow
     blocked side toward own stopped again atDestination inRow leaving across nearing otherRow hop moved arrived hopAt walk
-    shutIn distance detours bound badSize badLength some badByte allowed misplacedAt misplaced mapTests offMesh inBlock onARing
+    shutIn distance detours bound badSize badLength some badByte allowed misplacedAt misplaced mapTests offMesh inBlock blockNearInRow
     unserved placeTests tripTests requestTests hopsOf sendTests routeRefusal
 starred-hold = tt
 
@@ -128,3 +139,34 @@ unfolding turns allHold holds A B verdict bytes onMesh rowAfter columnAfter oppo
     badSize badLength some badByte allowed misplacedAt misplaced mapTests offMesh inBlock placeTests hopTests letterMistake follow unless
     judge judgeFrom judgement atDestination
 turns-hold = tt
+
+-- Refusal 8 (document 02, E4) round map A's block, of rows 3 and 4 and columns 4 and 5: two columns on either side, in its rows; a place of its
+-- ring in the row next to it is served. Next to a block a route can fail, whichever side the destination is on: past the block the packet
+-- comes down in the odd column and may not turn west there.
+unfoldable pub nearBlocks : List Case
+nearBlocks =
+    refuses A (1, 5) (3, 3) 8 ∷
+    refuses A (1, 5) (3, 2) 8 ∷
+    routes A (1, 5) (4, 1) "WNWWNNW" ∷
+    refuses A (1, 5) (4, 6) 8 ∷
+    refuses A (1, 5) (4, 7) 8 ∷
+    routes A (1, 5) (4, 8) "WNWWNNENEEEESE" ∷
+    rings A (5, 4) ∷
+    routes A (4, 9) (5, 4) "WNWWWW" ∷
+    rings A (2, 5) ∷
+    routes A (6, 4) (2, 5) "SWWSSSEEE" ∷
+    walks A (1, 5) (4, 6) "WNWWNNENEEEESW" ∷
+    judges A (1, 5) (4, 6) "WNWWNNENEEEESW" 17 13 ∷
+    refuses D (4, 1) (4, 2) 8 ∷
+    walks D (4, 1) (4, 2) "NEEEESW" ∷
+    judges D (4, 1) (4, 2) "NEEEESW" 17 6 ∷
+    []
+
+pub nearBlocks-hold : T (allHold nearBlocks)
+unfolding nearBlocks allHold holds A D refusal verdict bytes onMesh rowAfter columnAfter letters opposite same named turnsWest first isBad bad ahead
+    upright ruleA ruleB unsafe become advance round sameList settle run corner blockAt select blocks reaches onRing someBlock nearInRow
+    blocked side toward own stopped again atDestination inRow leaving across nearing otherRow hop moved stays arrived hopAt walk
+    shutIn distance detours bound badSize badLength some badByte allowed misplacedAt misplaced mapTests offMesh inBlock blockNearInRow
+    unserved placeTests tripTests requestTests hopsOf sendTests routeRefusal breaks turnBreaks hopBreaks reverses turnsBack
+    hopTests letterMistake follow unless judge judgeFrom judgement
+nearBlocks-hold = tt

@@ -3,7 +3,7 @@ use mathlib.Core.List.{List, _++_}
 use Prim.Native.Nat.{ℕ, zero, suc, _+_}
 use lib.ListN.{length, drop}
 use Rattle.mesh.specs.declared.Refusal.{Refusal}
-use Rattle.mesh.specs.declared.Refusal.the-variants.{Columns, Rows, MapLength, MapByte, FaultPlace, OffMesh, InBlock, OnRing, Unlawful, Room}
+use Rattle.mesh.specs.declared.Refusal.the-variants.{Columns, Rows, MapLength, MapByte, FaultPlace, OffMesh, InBlock, BlockNearInRow, Unlawful, Room}
 use Rattle.mesh.specs.declared.Checked.{Checked}
 use Rattle.mesh.specs.declared.Checked.the-variants.{Clear, Refused}
 use Rattle.mesh.specs.declared.Mistake.{Mistake}
@@ -20,7 +20,7 @@ number MapByte = 4
 number FaultPlace = 5
 number OffMesh = 6
 number InBlock = 7
-number OnRing = 8
+number BlockNearInRow = 8
 number Unlawful = 9
 number Room = 10
 

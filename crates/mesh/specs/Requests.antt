@@ -4,8 +4,8 @@ use mathlib.Core.List.{List, [], _∷_, _++_}
 use Rattle.mesh.specs.declared.Place.{Place}
 use Rattle.mesh.specs.Tests.{Test, _gives_}
 use Rattle.mesh.specs.Mesh.{Mesh, onMesh}
-use Rattle.mesh.specs.Nodes.{bad}
-use Rattle.mesh.specs.Blocks.{blocks, onSomeRing}
+use Rattle.mesh.specs.Nodes.{bad, nearInRow}
+use Rattle.mesh.specs.Blocks.{within, someBlock, blocks}
 use Rattle.mesh.specs.Rules.{tripOn}
 use Rattle.mesh.specs.Walk.{shutIn}
 
@@ -17,9 +17,9 @@ offMesh w p = not (onMesh w (p .row .0) (p .column .0))
 unfoldable pub inBlock : Mesh → Place → Bool
 inBlock w p = bad w (p .row .0) (p .column .0)
 
--- 8: on a ring
-unfoldable pub onARing : Mesh → Place → Bool
-onARing w p = onSomeRing (blocks w) (p .row .0) (p .column .0)
+-- 8: some block has a node in its row, one or two columns away (document 02, E4)
+unfoldable pub blockNearInRow : Mesh → Place → Bool
+blockNearInRow w p = someBlock (λ b. nearInRow (within b) (p .row .0) (p .column .0)) (blocks w)
 
 -- 9: a hop by the rules leaves the mesh, enters a block or is a forbidden turn or reversal; by the condition that this comes to
 unfoldable pub unserved : Mesh → Place → Place → Bool
@@ -34,7 +34,7 @@ placeTests w s d =
 
 -- refusals 6 to 8, the last one of the destination
 unfoldable pub tripTests : Mesh → Place → Place → List Test
-tripTests w s d = placeTests w s d ++ (onARing w d gives 8 ∷ [])
+tripTests w s d = placeTests w s d ++ (blockNearInRow w d gives 8 ∷ [])
 
 -- refusals 6 to 9
 unfoldable pub requestTests : Mesh → Place → Place → List Test

@@ -39,7 +39,7 @@ pub enum Refusal {
     FaultPlace,
     OffMesh,
     InBlock,
-    OnRing,
+    BlockNearInRow,
     Unlawful,
     Room,
 }

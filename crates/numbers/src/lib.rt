@@ -37,7 +37,7 @@ pub fn refusal_number(why: Refusal) -> u32
         Refusal::FaultPlace => return 5,
         Refusal::OffMesh => return 6,
         Refusal::InBlock => return 7,
-        Refusal::OnRing => return 8,
+        Refusal::BlockNearInRow => return 8,
         Refusal::Unlawful => return 9,
         Refusal::Room => return 10,
     }

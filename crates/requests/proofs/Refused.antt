@@ -8,13 +8,13 @@ use borrow.Author.Tests.{lt-ltb, le-ltb, lt-leb, le-leb, ltb-true, ltb-false}
 use lib.Dec.{leb, ltb}
 use Rattle.mesh.specs.declared.Place.{Place}
 use Rattle.mesh.specs.declared.Refusal.{Refusal}
-use Rattle.mesh.specs.declared.Refusal.the-variants.{OnRing, Unlawful}
+use Rattle.mesh.specs.declared.Refusal.the-variants.{BlockNearInRow, Unlawful}
 use Rattle.mesh.specs.declared.Checked.{Checked}
 use Rattle.mesh.specs.declared.Checked.the-variants.{Clear, Refused}
 use Rattle.mesh.specs.Mesh.{Mesh, mesh, onMesh}
 use Rattle.mesh.specs.Tests.{Test, _gives_, first}
 use Rattle.mesh.specs.Numbers.{number, checkedNumber}
-use Rattle.mesh.specs.Requests.{offMesh, inBlock, onARing, unserved, placeTests, tripTests, requestTests}
+use Rattle.mesh.specs.Requests.{offMesh, inBlock, blockNearInRow, unserved, placeTests, tripTests, requestTests}
 use Rattle.mesh.proofs.Bools.{value}
 use Rattle.mesh.proofs.Tests.{numbered, told-refused, told-clear, clear-next}
 use Rattle.mesh.proofs.Requests.{place-numbered, trip-numbered}
@@ -73,18 +73,18 @@ module _ (w : Mesh) (s d : Place) {x : Checked} where
   module _ (told : checkedNumber x ≡ first (placeTests w s d)) where
     pub place-first : {why : Refusal} → x ≡ Refused why → checkedNumber (Refused why) ≡ first (tripTests w s d)
     unfolding tripTests
-    place-first = before-it (placeTests w s d) (place-numbered w s d) (onARing w d gives 8) told
+    place-first = before-it (placeTests w s d) (place-numbered w s d) (blockNearInRow w d gives 8) told
 
-    module _ (e : x ≡ Clear) {r : Bool} (is-r : r ≡ onARing w d) where
-      ring-decides : cond r 8 0 ≡ first (tripTests w s d)
+    module _ (e : x ≡ Clear) {r : Bool} (is-r : r ≡ blockNearInRow w d) where
+      near-decides : cond r 8 0 ≡ first (tripTests w s d)
       unfolding tripTests
-      ring-decides = rw is-r (it-decides (placeTests w s d) (place-numbered w s d) (onARing w d gives 8) told e)
+      near-decides = rw is-r (it-decides (placeTests w s d) (place-numbered w s d) (blockNearInRow w d gives 8) told e)
 
-      pub ring-refused : r ≡ true → checkedNumber (Refused OnRing) ≡ first (tripTests w s d)
-      ring-refused f = rw (← ring-decides, f)
+      pub near-refused : r ≡ true → checkedNumber (Refused BlockNearInRow) ≡ first (tripTests w s d)
+      near-refused f = rw (← near-decides, f)
 
-      pub ring-clear : r ≡ false → checkedNumber Clear ≡ first (tripTests w s d)
-      ring-clear f = rw (← ring-decides, f)
+      pub near-clear : r ≡ false → checkedNumber Clear ≡ first (tripTests w s d)
+      near-clear f = rw (← near-decides, f)
 
   module _ (told : checkedNumber x ≡ first (tripTests w s d)) where
     pub trip-first : {why : Refusal} → x ≡ Refused why → checkedNumber (Refused why) ≡ first (requestTests w s d)

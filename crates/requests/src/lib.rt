@@ -8,7 +8,7 @@ ghost use Rattle.mesh.specs.Numbers.{checkedNumber};
 ghost use Rattle.mesh.specs.Requests.{offMesh, inBlock, unserved, placeTests, tripTests, requestTests};
 ghost use Rattle.nodes.specs.Sized.{Sized, OnMesh};
 ghost use Rattle.blocks.specs.Marking.{Marking};
-use blocks::is_on_ring;
+use blocks::is_block_near_in_row;
 use mesh::Checked;
 use mesh::Heading;
 use mesh::Place;
@@ -55,7 +55,7 @@ pub fn check_places(columns: u32, rows: u32, marks: &[u8], s: Place, d: Place) -
     Checked::Clear
 }
 
-// Refusals 6 to 8: then the destination on a ring.
+// Refusals 6 to 8: then a block near the destination in its row.
 pub fn check_trip(columns: u32, rows: u32, marks: &[u8], s: Place, d: Place) -> Checked
     requires { ⌜ Marking columns rows (now marks) ⌝ }
     ensures { λ x. ⌜ checkedNumber x ≡ first (tripTests (mesh columns rows (now (marks .entry))) s d) ⌝ }
@@ -64,8 +64,8 @@ pub fn check_trip(columns: u32, rows: u32, marks: &[u8], s: Place, d: Place) -> 
     if let Checked::Refused(why) = checked {
         return Checked::Refused(why);
     }
-    if is_on_ring(columns, rows, marks, d) {
-        return Checked::Refused(Refusal::OnRing);
+    if is_block_near_in_row(columns, rows, marks, d) {
+        return Checked::Refused(Refusal::BlockNearInRow);
     }
     Checked::Clear
 }

@@ -51,7 +51,7 @@ module _ (columns rows : ℕ) (marks : List ℕ) (s d : Place) (m : Marking colu
   unfolding hopsOf
   rest-hops =
       let w = mesh columns rows marks in
-      same-walk (destination-course w s d (m .obstacles) (q .placed) (q .off-rings)) _ _ (source-served w s d q) hopLimit _ bound-few (omega arith)
+      same-walk (destination-course w s d (m .obstacles) (q .placed) (q .row-clear)) _ _ (source-served w s d q) hopLimit _ bound-few (omega arith)
 
   pub starts : Going columns rows marks (start s d) 0 hopLimit
   starts =

@@ -1,5 +1,4 @@
-// A whole table of sends: of 11 hops, of 13, to a ring, of 2. The output has dots where no letter is written, and an entry without an answer
-// is 0.
+// Whole tables of sends. The output has dots where no letter is written, and an entry without an answer is 0.
 use crate::prints::faults;
 use crate::prints::print;
 use crate::prints::print_answer;
@@ -29,16 +28,29 @@ fn print_entries(answers: &[u32]) {
 }
 
 // On a map with this fault and (4,5).
-fn try_table(p: u32, answers: &mut [u32], out: &mut [u8]) {
+fn try_sends(p: u32, sends: &[u32], answers: &mut [u32], out: &mut [u8]) {
     let map = faults(p, 45);
-    let sends = [1u32, 5, 6, 5, 3, 0, 3, 9, 1, 1, 4, 6, 1, 1, 1, 3];
-    let answer = route_batch(10, 8, &map, &sends, answers, out);
+    let answer = route_batch(10, 8, &map, sends, answers, out);
     print(b"table of sends: ");
     print_batched(answer);
     print_entries(answers);
     print(b" ");
     print(out);
     print(b"\n");
+}
+
+// Sends of 11 hops, of 13, to a block's side, of 2.
+fn try_table(p: u32, answers: &mut [u32], out: &mut [u8]) {
+    let sends = [1u32, 5, 6, 5, 3, 0, 3, 9, 1, 1, 4, 6, 1, 1, 1, 3];
+    try_sends(p, &sends, answers, out);
+}
+
+// To the row above a block, to its west and east sides, to the row below it.
+fn try_near() {
+    let mut answers = [0u32; 4];
+    let mut out = [b'.'; 30];
+    let sends = [1u32, 5, 5, 4, 1, 5, 3, 3, 1, 5, 4, 7, 6, 4, 2, 5];
+    try_sends(34, &sends, &mut answers, &mut out);
 }
 
 fn try_30(p: u32) {
@@ -76,4 +88,5 @@ pub fn try_tables() {
     try_short(34);
     try_30(4);
     try_short(4);
+    try_near();
 }

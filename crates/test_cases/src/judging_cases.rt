@@ -65,8 +65,17 @@ fn try_turns_and_more() {
     try_turn(34, 45, 3, 4, b'E', b'S');
 }
 
+// To the sides of a block, where no route is given: the hops by the rules, which end in a forbidden turn, and routes that pass.
+fn try_sides() {
+    try_letters(34, 45, 15, 46, b"WNWWNNENEEEESW");
+    try_letters(34, 45, 17, 46, b"WNNN");
+    try_letters(43, 43, 41, 42, b"NEEEESW");
+    try_letters(43, 43, 41, 42, b"E");
+}
+
 pub fn try_hand_ins() {
     try_routes();
     try_turns();
     try_turns_and_more();
+    try_sides();
 }

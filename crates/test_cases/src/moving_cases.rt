@@ -85,6 +85,7 @@ pub fn try_packets() {
     try_packet(44, 44, 45, 65, 2);
     try_packet(44, 44, 45, 40, 3);
     try_packet(44, 44, 46, 46, 2);
+    try_packet(34, 45, 15, 54, 10);
     try_packet(44, 44, 44, 46, 2);
     try_packet(44, 44, 44, 80, 2);
     try_packet(31, 44, 44, 80, 2);

@@ -23,6 +23,20 @@ fn try_route(p: u32, q: u32, source: u32, destination: u32) {
     print(b"\n");
 }
 
+// Round one block: its rows and the rows next to it.
+fn try_near() {
+    try_route(34, 45, 15, 54);
+    try_route(34, 45, 49, 54);
+    try_route(34, 45, 64, 25);
+    try_route(34, 45, 15, 41);
+    try_route(34, 45, 15, 32);
+    try_route(34, 45, 15, 33);
+    try_route(34, 45, 15, 46);
+    try_route(34, 45, 15, 47);
+    try_route(34, 45, 15, 48);
+    try_route(43, 43, 41, 42);
+}
+
 pub fn try_routes() {
     try_route(34, 45, 15, 65);
     try_route(34, 45, 14, 39);
@@ -37,4 +51,5 @@ pub fn try_routes() {
     try_route(44, 44, 49, 47);
     try_route(44, 44, 47, 47);
     try_route(44, 44, 0, 0);
+    try_near();
 }

@@ -47,7 +47,7 @@ fn arrive(hops: u32, room: usize) -> u32 {
     hops
 }
 
-// Refusals 6 to 8, or 0: a ring is a box grown by one row each way and two columns.
+// Refusals 6 to 8, or 0. Outside the boxes, a node of one is near in the row exactly if the place is in the box grown by two columns each way.
 fn refuse(size: Size, list: &[u8; 4096], n: usize, t: Trip) -> u32 {
     if is_off(size, t.row, t.column) {
         return REFUSED + 6;
@@ -61,7 +61,7 @@ fn refuse(size: Size, list: &[u8; 4096], n: usize, t: Trip) -> u32 {
     if is_within(list, n, t.to_row, t.to_column, 0, 0) {
         return REFUSED + 7;
     }
-    if is_within(list, n, t.to_row, t.to_column, 1, 2) {
+    if is_within(list, n, t.to_row, t.to_column, 0, 2) {
         return REFUSED + 8;
     }
     0

@@ -10,14 +10,14 @@ use Rattle.mesh.specs.Headings.{rowAfter, columnAfter, letters}
 use Rattle.mesh.specs.Parity.{turnsWest}
 use Rattle.mesh.specs.Tests.{first}
 use Rattle.mesh.specs.Numbers.{answer, refusalCode}
-use Rattle.mesh.specs.Nodes.{isBad, bad, ahead, upright, ruleA, ruleB, unsafe}
+use Rattle.mesh.specs.Nodes.{isBad, bad, ahead, upright, ruleA, ruleB, unsafe, nearInRow}
 use Rattle.mesh.specs.Rounds.{become, advance, round, sameList, settle}
-use Rattle.mesh.specs.Blocks.{run, corner, blockAt, select, blocks, reaches, onRing, onSomeRing}
+use Rattle.mesh.specs.Blocks.{run, corner, blockAt, select, blocks, reaches, someBlock}
 use Rattle.mesh.specs.Rules.{blocked, side, toward, own, stopped, again, atDestination, inRow, leaving, across, nearing, otherRow, hop}
 use Rattle.mesh.specs.Hops.{moved}
 use Rattle.mesh.specs.Walk.{arrived, hopAt, walk, shutIn, distance, detours, bound}
 use Rattle.mesh.specs.Maps.{badSize, badLength, some, badByte, allowed, misplacedAt, misplaced, mapTests}
-use Rattle.mesh.specs.Requests.{offMesh, inBlock, onARing, unserved, placeTests, tripTests, requestTests}
+use Rattle.mesh.specs.Requests.{offMesh, inBlock, blockNearInRow, unserved, placeTests, tripTests, requestTests}
 use Rattle.mesh.specs.Routing.{hopsOf, sendTests, routeRefusal}
 use Rattle.mesh.specs.Cases.{A, bytes, faultMap}
 use Rattle.theory_batch.specs.Sends.{sendsOf}
@@ -39,9 +39,13 @@ unfoldable pub allHold : List Case → Bool
 allHold [] = true
 allHold (x ∷ xs) = holds x && allHold xs
 
--- 11 hops, 13 hops, to a ring, 2 hops
+-- 11 hops, 13 hops, to the side of a block, 2 hops
 unfoldable pub table : List ℕ
 table = 1 ∷ 5 ∷ 6 ∷ 5 ∷ 3 ∷ 0 ∷ 3 ∷ 9 ∷ 1 ∷ 1 ∷ 4 ∷ 6 ∷ 1 ∷ 1 ∷ 1 ∷ 3 ∷ []
+
+-- to the row above a block, to its sides, to the row below it
+unfoldable pub near : List ℕ
+near = 1 ∷ 5 ∷ 5 ∷ 4 ∷ 1 ∷ 5 ∷ 3 ∷ 3 ∷ 1 ∷ 5 ∷ 4 ∷ 7 ∷ 6 ∷ 4 ∷ 2 ∷ 5 ∷ []
 
 -- With room for all; where the second doesn't fit and the last, which is shorter, does; where one byte lacks for that; without room; no sends.
 -- Then lists that aren't whole sends, answer lists that are too short, and both with a fault where none is allowed.
@@ -52,6 +56,7 @@ worked =
     answers table 12 (11 ∷ 65546 ∷ 65544 ∷ 65546 ∷ []) "WNWWNNNNEEE" ∷
     answers table 0 (65546 ∷ 65546 ∷ 65544 ∷ 65546 ∷ []) "" ∷
     answers [] 26 [] "" ∷
+    answers near 20 (9 ∷ 65544 ∷ 65544 ∷ 9 ∷ []) "WNWWNNNEESWWSSSEEE" ∷
     refuses A table 4 0 ∷
     refuses A table 3 18 ∷
     refuses A (1 ∷ table) 5 18 ∷
@@ -61,10 +66,10 @@ worked =
     []
 
 pub worked-hold : T (allHold worked)
-unfolding worked table allHold holds A bytes onMesh rowAfter columnAfter letters turnsWest first answer refusalCode isBad bad ahead
-    upright ruleA ruleB unsafe become advance round sameList settle run corner blockAt select blocks reaches onRing onSomeRing
+unfolding worked table near allHold holds A bytes onMesh rowAfter columnAfter letters turnsWest first answer refusalCode isBad bad ahead
+    upright ruleA ruleB unsafe become advance round sameList settle run corner blockAt select blocks reaches someBlock nearInRow
     blocked side toward own stopped again atDestination inRow leaving across nearing otherRow hop moved arrived hopAt walk
-    shutIn distance detours bound badSize badLength some badByte allowed misplacedAt misplaced mapTests offMesh inBlock onARing
+    shutIn distance detours bound badSize badLength some badByte allowed misplacedAt misplaced mapTests offMesh inBlock blockNearInRow
     unserved placeTests tripTests requestTests hopsOf sendTests routeRefusal sendsOf unlessRefused call routeCall calls
     answersOf lettersOf batchRefusal
 worked-hold = tt

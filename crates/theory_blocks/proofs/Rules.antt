@@ -85,6 +85,10 @@ module _ (P : ℕ → Bool) (n : ℕ) where
         | no h ↦ let e : u .far ≡ 2 = omega arith in simp (rw e at (u .there), or-true)
       ]
 
+-- at the same place, in a line that holds more
+pub nearby-in : {d n : ℕ} (P R : ℕ → Bool) → ((n : ℕ) → P n ≡ true → R n ≡ true) → Nearby d P n → Nearby d R n
+nearby-in P R f k = record { place = k .place; here = f (k .place) (k .here); other = k .other; low = k .low; high = k .high }
+
 both-rules : (f b s : Bool) → b || s ≡ true → (f || (b && true)) || (true && s) ≡ true
 both-rules true b s e = refl
 both-rules false true s e = refl
@@ -124,12 +128,9 @@ module _ (B : ℕ → ℕ → Bool) (r c : ℕ) where
 pub unsafe-mono : {B Q : ℕ → ℕ → Bool} → Holds B Q → (r c : ℕ) → unsafe B r c ≡ true → unsafe Q r c ≡ true
 unsafe-mono {B} {Q} m r c e = reason-unsafe Q r c (go (unsafe-reason B r c e))
   where
-    keep : {d n : ℕ} (P R : ℕ → Bool) → ((n : ℕ) → P n ≡ true → R n ≡ true) → Nearby d P n → Nearby d R n
-    keep P R f k = record { place = k .place; here = f (k .place) (k .here); other = k .other; low = k .low; high = k .high }
-
     go : Reason B r c → Reason Q r c
     go (between-two y q p e) = between-two y q (m .holds r y p) (m .holds r (suc c) e)
-    go (crossed u a) = crossed (keep (column B c) (column Q c) (λ x. m .holds x c) u) (keep (B r) (Q r) (m .holds r) a)
+    go (crossed u a) = crossed (nearby-in (column B c) (column Q c) (λ x. m .holds x c) u) (nearby-in (B r) (Q r) (m .holds r) a)
 
 -- a marking is closed if it holds whatever it gives a reason for
 pub reasons-closed : (columns rows : ℕ) (B : ℕ → ℕ → Bool) → ((r c : ℕ) → Reason B r c → B r c ≡ true) → Closed columns rows B

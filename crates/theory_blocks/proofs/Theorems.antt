@@ -1,27 +1,31 @@
 -- What is shown of the marking and the blocks of document 01. Each theorem is proved in the file that its proof cites. Assumes nothing.
 use mathlib.Core.Path.{_≡_, refl}
-use mathlib.Core.Logic.{_⊎_}
-use mathlib.Core.Bool.{Bool, false}
+use mathlib.Core.Logic.{_⊎_, _↔_}
+use mathlib.Core.Bool.{Bool, true, false}
 use mathlib.Core.List.{List, [], _∷_}
 use Prim.Native.Nat.{ℕ, _-_, _*_, _≤_}
 use native.Mathlib.Omega.{arith}
 use lib.ListN.{length}
+use Rattle.mesh.specs.declared.Place.{Place}
 use Rattle.mesh.specs.Mesh.{Mesh, mesh, onMesh}
-use Rattle.mesh.specs.Nodes.{isBad, bad, ahead, upright, ruleA, ruleB, unsafe}
+use Rattle.mesh.specs.Nodes.{isBad, bad, ahead, upright, ruleA, ruleB, unsafe, nearInRow}
 use Rattle.mesh.specs.Rounds.{become, advance, round, sameList, settle, marked}
-use Rattle.mesh.specs.Blocks.{run, corner, Block, blockAt, select, blocks}
+use Rattle.mesh.specs.Blocks.{run, corner, Block, blockAt, select, blocks, onRing}
 use Rattle.mesh.specs.Walk.{detours}
 use Rattle.mesh.specs.Maps.{allowed}
+use Rattle.mesh.specs.Requests.{inBlock, blockNearInRow}
 use Rattle.mesh.proofs.Index.{few-nodes}
 use Rattle.mesh.proofs.Maps.{Accepted}
 use Rattle.theory_blocks.specs.Marking.{Closed, Holds}
 use Rattle.theory_blocks.specs.Blocks.{Unjoined, IsBlock, Within, OnRing, Fits, Apart}
-use Rattle.theory_blocks.specs.Obstacles.{Listed, IsListed, Pairs, ObstaclesOf}
+use Rattle.theory_blocks.specs.Obstacles.{Listed, OnSomeSide, IsListed, Pairs, ObstaclesOf}
 use Rattle.theory_blocks.proofs.Marking.{marked-closed, marked-holds, marked-least}
 use Rattle.theory_blocks.proofs.Apart.{listed-apart}
 use Rattle.theory_blocks.proofs.Connected.{walled-block, block-listed, apart-unjoined}
 use Rattle.theory_blocks.proofs.Listed.{blocks-walled, bad-in-block, blocks-apart, blocks-within}
 use Rattle.theory_blocks.proofs.Margins.{allowed-closed, walled-fits}
+use Rattle.theory_blocks.proofs.Rings.{onRing-told, onRing-true}
+use Rattle.theory_blocks.proofs.Near.{near-blocks, near-sides}
 use Rattle.theory_blocks.proofs.Area.{detours-bounded}
 
 -- Of any map with a number for each node.
@@ -59,6 +63,10 @@ module _ (w : Mesh) (size : length (w .map) ≡ w .columns * w .rows) where
   pub each-block-once : Pairs (Unjoined (bad (marked w))) (blocks (marked w))
   each-block-once = apart-unjoined (blocks-walled (marked w) marking-is-closed) blocks-are-apart
 
+  -- a ring by computing is the ring
+  pub ring-computes : (b : Block) (x y : ℕ) → onRing b x y ≡ true ↔ OnRing b x y
+  ring-computes b x y = (onRing-told b x y, onRing-true b x y)
+
   -- no place of a ring is bad
   pub ring-is-free : (b : Block) → Listed b (blocks (marked w)) → (x y : ℕ) → OnRing b x y → bad (marked w) x y ≡ false
   ring-is-free b m = blocks-walled (marked w) marking-is-closed b m .ring
@@ -83,6 +91,17 @@ module _ {columns rows : ℕ} {map : List ℕ} (a : Accepted columns rows map) w
         apart = blocks-apart (marked w) closed;
         fits = rings-fit w (a .size) (record { holds = a .placed });
       }
+
+  -- refusal 8 is a look at four nodes of the row
+  pub refusal-8-by-nodes : (p : Place) → let w = marked (mesh columns rows map) in blockNearInRow w p ≡ nearInRow (bad w) (p .row .0) (p .column .0)
+  unfolding blockNearInRow
+  refusal-8-by-nodes p = near-blocks obstacles (p .row .0) (p .column .0)
+
+  -- outside the blocks it bars the sides of their rings: the rows south and north of a block are no part of them
+  pub refusal-8-bars-sides : (p : Place) → let w = marked (mesh columns rows map) in
+      inBlock w p ≡ false → blockNearInRow w p ≡ true ↔ OnSomeSide (blocks w) (p .row .0) (p .column .0)
+  unfolding inBlock blockNearInRow
+  refusal-8-bars-sides p free = near-sides obstacles (p .row .0) (p .column .0) free
 
   -- they are few: their number, beside refusals as 65,536 plus theirs, can't be taken for one
   pub blocks-are-few : length (blocks (marked (mesh columns rows map))) ≤ 4096

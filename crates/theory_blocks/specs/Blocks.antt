@@ -45,6 +45,11 @@ pub record OnRing (b : Block) (r c : ℕ) : Type 0 where
   pub near : Reaches 1 2 b r c
   pub outside : Within b r c → ⊥
 
+-- (r, c) is a place of b's ring in a row of b: on its west or east side
+pub record OnSide (b : Block) (r c : ℕ) : Type 0 where
+  pub on-ring : OnRing b r c
+  pub in-row : (b .row ≤ r) × (r < b .height + b .row)
+
 -- the ring fits the mesh
 pub record Fits (columns rows : ℕ) (b : Block) : Type 0 where
   pub south : 1 ≤ b .row

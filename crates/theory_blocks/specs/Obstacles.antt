@@ -7,7 +7,7 @@ use Prim.Native.Nat.{ℕ, _<_}
 use Rattle.mesh.specs.Mesh.{Mesh}
 use Rattle.mesh.specs.Nodes.{bad}
 use Rattle.mesh.specs.Blocks.{Block, blocks}
-use Rattle.theory_blocks.specs.Blocks.{Within, OnRing, Fits, Apart}
+use Rattle.theory_blocks.specs.Blocks.{Within, OnRing, OnSide, Fits, Apart}
 
 abbrev pub Listed : Block → List Block → Type 0
 Listed b bs = List·Memᴰ b bs
@@ -24,6 +24,12 @@ pub record InBlock (bs : List Block) (x y : ℕ) : Type 0 where
   pub block : Block
   pub listed : Listed block bs
   pub within : Within block x y
+
+-- (x, y) is on a side of a listed block's ring
+pub record OnSomeSide (bs : List Block) (x y : ℕ) : Type 0 where
+  pub block : Block
+  pub listed : Listed block bs
+  pub side : OnSide block x y
 
 -- a set of nodes is a listed block's
 pub record IsListed (bs : List Block) (Set : ℕ → ℕ → Type 0) : Type 0 where

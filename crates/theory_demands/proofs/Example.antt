@@ -1,4 +1,4 @@
--- The premise of demand 3 can be met: it is by every starred case of document 01 that is a route. Assumes nothing.
+-- The premise of demand 3 can be met: it is by every starred case that is a route. Assumes nothing.
 use mathlib.Core.Bool.{Bool, true, false, _&&_}
 use mathlib.Core.List.{List, [], _∷_}
 use Prim.Native.Nat.{ℕ, zero, suc, _<_}
@@ -34,3 +34,10 @@ unfolding starred
 example =
     let c = routes A (1, 5) (6, 5) "WNWWNNNNEEE" in
     case-served A (1, 5) (6, 5) "WNWWNNNNEEE" (each-holds starred starred-hold 5 c (omega arith))
+
+-- map A, (1, 5) to (5, 4), on the ring, in the row above the block: case number 12
+pub beside-block : Demand3 10 8 (faultMap A) (place (1, 5)) (place (5, 4))
+unfolding starred
+beside-block =
+    let c = routes A (1, 5) (5, 4) "WNWWNNNEE" in
+    case-served A (1, 5) (5, 4) "WNWWNNNEE" (each-holds starred starred-hold 12 c (omega arith))

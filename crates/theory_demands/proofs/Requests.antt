@@ -9,7 +9,7 @@ use Rattle.mesh.specs.Tests.{Test, first}
 use Rattle.mesh.specs.Rounds.{marked}
 use Rattle.mesh.specs.Blocks.{blocks}
 use Rattle.mesh.specs.Maps.{mapTests}
-use Rattle.mesh.specs.Requests.{inBlock, onARing, placeTests, tripTests, requestTests}
+use Rattle.mesh.specs.Requests.{inBlock, blockNearInRow, placeTests, tripTests, requestTests}
 use Rattle.mesh.proofs.Tests.{None, first-none, clear-before, clear-next}
 use Rattle.mesh.proofs.Maps.{map-numbered, accepted}
 use Rattle.mesh.proofs.Requests.{on-row, on-column, Placed, trip-numbered, placed, request}
@@ -23,7 +23,7 @@ use Rattle.theory_demands.specs.Demand3.{refusal1to8, requestRefusal}
 pub record Passed (columns rows : ℕ) (map : List ℕ) (s d : Place) : Type 0 where
   pub map-passes : first (mapTests columns rows map) ≡ 0
   pub placed : Placed (marked (mesh columns rows map)) s d
-  pub off-rings : onARing (marked (mesh columns rows map)) d ≡ false
+  pub row-clear : blockNearInRow (marked (mesh columns rows map)) d ≡ false
 
 -- and one that 9 lets pass too
 pub record Clear (columns rows : ℕ) (map : List ℕ) (s d : Place) : Type 0 where
@@ -44,20 +44,20 @@ module _ (columns rows : ℕ) (map : List ℕ) (s d : Place) where
   unfolding refusal1to8 tripTests placeTests None
   passed-8 h =
       let (clear, none) = map-passes (tripTests w s d) h in
-      let (_, (_, (off-rings, _))) = first-none (tripTests w s d) (trip-numbered w s d) none in
-      record { map-passes = clear; placed = placed w s d (clear-before (placeTests w s d) _ none); off-rings = off-rings }
+      let (_, (_, (row-clear, _))) = first-none (tripTests w s d) (trip-numbered w s d) none in
+      record { map-passes = clear; placed = placed w s d (clear-before (placeTests w s d) _ none); row-clear = row-clear }
 
   pub passed-9 : requestRefusal columns rows map s d ≡ 0 → Clear columns rows map s d
   unfolding requestRefusal
   passed-9 h =
       let (clear, none) = map-passes (requestTests w s d) h in
       let q = request w s d none in
-      record { passed = record { map-passes = clear; placed = q .placed; off-rings = q .off-rings }; none = none }
+      record { passed = record { map-passes = clear; placed = q .placed; row-clear = q .row-clear }; none = none }
 
 module _ {columns rows : ℕ} {map : List ℕ} {s d : Place} (p : Passed columns rows map s d) where
   pub course-of : Course (tripTo columns rows map d) (blocks (marked (mesh columns rows map)))
   course-of =
-      destination-course (marked (mesh columns rows map)) s d (obstacles (accepted (p .map-passes))) (p .placed) (p .off-rings)
+      destination-course (marked (mesh columns rows map)) s d (obstacles (accepted (p .map-passes))) (p .placed) (p .row-clear)
 
   pub free-source : FreePlace (tripTo columns rows map d) (s .row .0) (s .column .0)
   unfolding inBlock

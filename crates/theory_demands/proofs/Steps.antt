@@ -59,7 +59,7 @@ module _ {columns rows : ℕ} {map : List ℕ} {s d : Place} (passed : Passed co
   unfolding moveRefusal tripTests placeTests first offMesh inBlock onMesh
   none-applies =
       clear-next (mapTests columns rows map) _ (map-numbered columns rows map) (passed .map-passes) ∙
-      rw (lt-ltb _ _ (free .row), lt-ltb _ _ (free .column), passed .placed .destination-on, free .free, passed .placed .destination-free, passed .off-rings)
+      rw (lt-ltb _ _ (free .row), lt-ltb _ _ (free .column), passed .placed .destination-on, free .free, passed .placed .destination-free, passed .row-clear)
 
   module _ {m : Moved} {after : Packet} (keeps : MovesOn columns rows map (packetAt a d) m after) where
     pub hops-answer : {h : Heading} → Hops (tripTo columns rows map d) a h → movedTold m ≡ hopped (letter h)

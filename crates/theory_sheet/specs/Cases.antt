@@ -7,14 +7,14 @@ use Rattle.mesh.specs.Mesh.{onMesh}
 use Rattle.mesh.specs.Headings.{rowAfter, columnAfter, letters}
 use Rattle.mesh.specs.Parity.{turnsWest}
 use Rattle.mesh.specs.Tests.{first}
-use Rattle.mesh.specs.Nodes.{isBad, bad, ahead, upright, ruleA, ruleB, unsafe}
+use Rattle.mesh.specs.Nodes.{isBad, bad, ahead, upright, ruleA, ruleB, unsafe, nearInRow}
 use Rattle.mesh.specs.Rounds.{become, advance, round, sameList, settle}
-use Rattle.mesh.specs.Blocks.{run, corner, blockAt, select, blocks, reaches, onRing, onSomeRing}
+use Rattle.mesh.specs.Blocks.{run, corner, blockAt, select, blocks, reaches, someBlock}
 use Rattle.mesh.specs.Rules.{blocked, side, toward, own, stopped, again, atDestination, inRow, leaving, across, nearing, otherRow, hop}
 use Rattle.mesh.specs.Hops.{moved}
 use Rattle.mesh.specs.Walk.{arrived, hopAt, walk, shutIn, distance, detours, bound}
 use Rattle.mesh.specs.Maps.{allowed, badSize, some, misplacedAt, misplaced}
-use Rattle.mesh.specs.Requests.{offMesh, inBlock, onARing, unserved, placeTests, tripTests, requestTests}
+use Rattle.mesh.specs.Requests.{offMesh, inBlock, blockNearInRow, unserved, placeTests, tripTests, requestTests}
 use Rattle.mesh.specs.Routing.{hopsOf}
 use Rattle.mesh.specs.Cases.{bytes}
 use Rattle.sheet_words.specs.Words as words
@@ -57,8 +57,8 @@ pub cases-print : T (allPrint cases)
 unfolding cases allPrint sheet answers atEnd lineStep commandOf commandStep answering answerTo sendAnswer answerOf
     change opening blocksLine isMisplaced faultLine meshLine linesOf before okLine spacedLetters line decimal digits
     commandAt command send sendTo fault sizes ended begins two words.first second spaced number more isDigit bytes
-    hopsOf requestTests tripTests placeTests unserved onARing inBlock offMesh misplaced misplacedAt some badSize allowed
+    hopsOf requestTests tripTests placeTests unserved blockNearInRow inBlock offMesh misplaced misplacedAt some badSize allowed
     bound detours distance shutIn walk hopAt arrived moved hop otherRow nearing across leaving inRow atDestination again
-    stopped own toward side blocked onSomeRing onRing reaches blocks select blockAt corner run settle sameList round
+    stopped own toward side blocked nearInRow someBlock reaches blocks select blockAt corner run settle sameList round
     advance become unsafe ruleB ruleA upright ahead bad isBad first turnsWest letters columnAfter rowAfter onMesh
 cases-print = tt

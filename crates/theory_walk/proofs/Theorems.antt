@@ -1,9 +1,9 @@
 -- The walk theorem and what goes with it: the walk by the hop rules arrives, lawfully and within the bound, unless the source is shut in. Assumes nothing.
 use mathlib.Core.Path.{_≡_, refl}
-use mathlib.Core.Bool.{Bool, true, false, not, _&&_}
+use mathlib.Core.Bool.{true, false, not, _&&_}
 use mathlib.Core.Logic.{_↔_, _⊎_, inl, inr}
 use mathlib.Core.List.{List}
-use Prim.Native.Nat.{ℕ, suc, _+_, _≤_, _<_}
+use Prim.Native.Nat.{ℕ, suc, _≤_, _<_}
 use native.Mathlib.Decide.{ℕ-discrete}
 use native.Mathlib.Omega.{arith}
 use borrow.Author.Tests.{eqb-true, eqb-false, ne-eqb, ltb-true, not-true, not-false}
@@ -15,18 +15,18 @@ use Rattle.mesh.specs.Mesh.{Mesh, mesh, onMesh, place}
 use Rattle.mesh.specs.Parity.{turnsWest}
 use Rattle.mesh.specs.Nodes.{bad}
 use Rattle.mesh.specs.Rounds.{marked}
-use Rattle.mesh.specs.Blocks.{Block, blocks, onSomeRing}
+use Rattle.mesh.specs.Blocks.{Block, blocks}
 use Rattle.mesh.specs.Rules.{Trip, blocked, tripOn}
 use Rattle.mesh.specs.Hops.{fresh}
 use Rattle.mesh.specs.Walk.{walk, shutIn, bound}
-use Rattle.mesh.specs.Requests.{offMesh, inBlock, onARing, unserved}
+use Rattle.mesh.specs.Requests.{offMesh, inBlock, blockNearInRow, unserved}
 use Rattle.mesh.specs.Routing.{hopsOf}
-use Rattle.mesh.proofs.Bools.{true-false, value, and-both, or-cases}
+use Rattle.mesh.proofs.Bools.{value, and-both, or-cases}
 use Rattle.mesh.proofs.Requests.{on-row, on-column, Placed, Request}
 use Rattle.mesh.proofs.Maps.{Accepted}
 use Rattle.mesh.proofs.Parity.{turns-change}
-use Rattle.theory_blocks.specs.Obstacles.{Obstacles, ObstaclesOf}
-use Rattle.theory_blocks.proofs.Rings.{off-rings-within}
+use Rattle.theory_blocks.specs.Obstacles.{ObstaclesOf}
+use Rattle.theory_blocks.proofs.Near.{row-is-clear}
 use Rattle.theory_blocks.proofs.Theorems.{obstacles}
 use Rattle.theory_walk.specs.Course.{Course, FreePlace, meetsEdge, Served}
 use Rattle.theory_walk.specs.Claims.{Arrives, mostHops, Fails, reached, OnTheWay}
@@ -91,18 +91,6 @@ module _ (t : Trip) (r c : ℕ) where
       known (yes z) = rw (z, e)
       known (no nz) = rw (ne-eqb c 0 nz)
 
--- a destination in no block and on no ring has no bad node in its row within two columns
-pub off-rings-served : {columns rows : ℕ} {B : ℕ → ℕ → Bool} {bs : List Block} → Obstacles columns rows B bs → (R C : ℕ) →
-    B R C ≡ false → onSomeRing bs R C ≡ false → (c : ℕ) → C ≤ c + 2 → c ≤ C + 2 → B R c ≡ false
-off-rings-served {B = B} o R C free off c h k = known (value (B R c))
-  where
-    known : (B R c ≡ true) ⊎ (B R c ≡ false) → B R c ≡ false
-    known (inr f) = f
-    known (inl b) =
-        let g = o .in-block R c b in
-        let i = off-rings-within R C off (g .block) (g .listed) (let within = g .within in omega arith) in
-        true-false (o .walled (g .block) (g .listed) .inside R C i) free
-
 -- with the turns of document 01, on a marked mesh
 module _ (w : Mesh) where
   -- no source meets the west edge
@@ -115,16 +103,16 @@ module _ (w : Mesh) where
 
   module _ (s d : Place) where
     -- a destination that refusals 6, 7 and 8 let pass gives a course
-    pub destination-course : ObstaclesOf w → Placed w s d → onARing w d ≡ false → Course (tripOn w d) (blocks w)
-    unfolding offMesh inBlock onARing
-    destination-course o p off =
+    pub destination-course : ObstaclesOf w → Placed w s d → blockNearInRow w d ≡ false → Course (tripOn w d) (blocks w)
+    unfolding offMesh inBlock blockNearInRow
+    destination-course o p far =
         let (row, column) = on-mesh (d .row .0) (d .column .0) (not-false _ (p .destination-on)) in
         record {
           obstacles = o;
           changes = turns-change;
           row = row;
           column = column;
-          clear = off-rings-served o (d .row .0) (d .column .0) (p .destination-free) off;
+          clear = row-is-clear o (d .row .0) (d .column .0) (p .destination-free) far;
         }
 
     -- a source that refusals 6, 7 and 9 let pass
@@ -143,13 +131,13 @@ module _ (w : Mesh) where
         Arrives (tripOn w d) (blocks w) (s .row .0) (s .column .0) (hopsOf w s d)
     unfolding hopsOf
     request-arrives o q =
-        walk-arrives (destination-course o (q .placed) (q .off-rings)) _ _ (source-served q) _ (omega arith)
+        walk-arrives (destination-course o (q .placed) (q .row-clear)) _ _ (source-served q) _ (omega arith)
 
     -- their bound on a mesh of at most 64 columns and rows
     pub request-bound : w .columns ≤ 64 → w .rows ≤ 64 → ObstaclesOf w → Request w s d →
         bound (tripOn w d) (blocks w) (s .row .0) (s .column .0) ≤ mostHops
     request-bound few-columns few-rows o q =
-        bound-few (destination-course o (q .placed) (q .off-rings)) (source-served q .place) few-columns few-rows
+        bound-few (destination-course o (q .placed) (q .row-clear)) (source-served q .place) few-columns few-rows
 
 -- no route has more hops: of every map that refusals 1 to 5 let pass, and every request that refusals 6 to 9 let pass
 pub routes-are-short : {columns rows : ℕ} {map : List ℕ} → Accepted columns rows map → (s d : Place) → Request (marked (mesh columns rows map)) s d →

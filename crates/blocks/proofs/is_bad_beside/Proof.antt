@@ -1,6 +1,6 @@
 -- A bad node to the east decides; if there is none, the west does. Assumes nothing.
 use borrow.Author.Needs.{needs}
-use Rattle.blocks.proofs.Rings.{beside-east, beside-west}
+use Rattle.blocks.proofs.Near.{beside-east, beside-west}
 use Rattle.blocks.proofs.is_bad_beside.Statement.{statement}
 use Rattle.blocks.proofs.is_bad_beside.Tie as tie
 

@@ -1,9 +1,9 @@
--- Refusals 6 and 7 are as they were told; where neither applies the destination is a free place of the mesh, and the ring decides. Assumes
+-- Refusals 6 and 7 are as they were told; where neither applies the destination is on the mesh, and a block near it in its row decides. Assumes
 -- nothing.
 use borrow.Author.Needs.{needs}
 use Rattle.mesh.proofs.Tests.{told-clear}
 use Rattle.mesh.proofs.Requests.{placed}
-use Rattle.requests.proofs.Refused.{place-first, ring-refused, ring-clear}
+use Rattle.requests.proofs.Refused.{place-first, near-refused, near-clear}
 use Rattle.requests.proofs.check_trip.Statement.{statement}
 use Rattle.requests.proofs.check_trip.Tie as tie
 
@@ -19,22 +19,22 @@ returns c = place-first _ _ _ (c .before .before .before .check-places .ensures)
 enum-told : tie.Need-enum-told
 enum-told c = search needs
 
-is-on-ring-requires : tie.Need-is-on-ring-requires
-is-on-ring-requires c κs =
+is-block-near-in-row-requires : tie.Need-is-block-near-in-row-requires
+is-block-near-in-row-requires c κs =
     let at-check = c .before .before in
     let p = placed _ _ _ (told-clear _ (c .enum-told .given .1) (at-check .check-places .ensures)) in
-    (at-check .before .before .pre, p .destination-on, p .destination-free)
+    (at-check .before .before .pre, p .destination-on)
 
 returns-2 : tie.Need-returns-2
 returns-2 c =
     let at-clear = c .before .before in
-    ring-refused _ _ _ (at-clear .before .before .check-places .ensures) (at-clear .enum-told .given .1)
-    (c .before .is-on-ring .ensures) (c .if1 .taken)
+    near-refused _ _ _ (at-clear .before .before .check-places .ensures) (at-clear .enum-told .given .1)
+    (c .before .is-block-near-in-row .ensures) (c .if1 .taken)
 
 returns-3 : tie.Need-returns-3
 returns-3 c =
     let at-clear = c .before .before in
-    ring-clear _ _ _ (at-clear .before .before .check-places .ensures) (at-clear .enum-told .given .1) (c .before .is-on-ring .ensures) (c .if1 .left)
+    near-clear _ _ _ (at-clear .before .before .check-places .ensures) (at-clear .enum-told .given .1) (c .before .is-block-near-in-row .ensures) (c .if1 .left)
 
 pub check-trip-spec : {M : Type 1} → statement M
 check-trip-spec =
@@ -44,6 +44,6 @@ check-trip-spec =
     enum-known-checked
     returns
     enum-told
-    is-on-ring-requires
+    is-block-near-in-row-requires
     returns-2
     returns-3)
