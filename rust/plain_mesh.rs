@@ -177,7 +177,7 @@ impl Mesh {
 
     /// Whether a node in the row, one or two columns away, is in a block.
     fn is_block_near_in_row(&self, (r, c): Node) -> bool {
-        [c - 2, c - 1, c + 1, c + 2].into_iter().any(|c| self.is_bad((r, c)))
+        [c - 2, c - 1, c + 1, c + 2].iter().any(|&c| self.is_bad((r, c)))
     }
 }
 
