@@ -22,7 +22,7 @@ pub struct Mesh {
     near: [u64; 64],
 }
 
-/// A node and the two on either side of it in its row.
+/// The two nodes on either side of each, in its row.
 fn beside(x: u64) -> u64 {
     x << 1 | x >> 1 | x << 2 | x >> 2
 }

@@ -86,6 +86,7 @@ B = (4, 4) ∷ []
 unfoldable pub C : List (ℕ × ℕ)
 C = (3, 3) ∷ (3, 6) ∷ []
 
+-- one fault in an odd column
 unfoldable pub D : List (ℕ × ℕ)
 D = (4, 3) ∷ []
 
@@ -140,9 +141,9 @@ unfolding turns allHold holds A B verdict bytes onMesh rowAfter columnAfter oppo
     judge judgeFrom judgement atDestination
 turns-hold = tt
 
--- Refusal 8 (document 02, E4) round map A's block, of rows 3 and 4 and columns 4 and 5: two columns on either side, in its rows; a place of its
--- ring in the row next to it is served. Next to a block a route can fail, whichever side the destination is on: past the block the packet
--- comes down in the odd column and may not turn west there.
+-- Refusal 8 (document 02, E4) round map A's block, of rows 3 and 4 and columns 4 and 5: two columns on either side, in its rows; its ring's
+-- places in the rows next to it are served. Right beside a block, east or west of it, a route could fail: past the block the packet comes
+-- back to its row in an odd column, and may not turn west there.
 unfoldable pub nearBlocks : List Case
 nearBlocks =
     refuses A (1, 5) (3, 3) 8 ∷

@@ -77,7 +77,7 @@ verdictIndex (failed k i) = i
 unfoldable pub judgeFrom : Mesh → Place → Place → List ℕ → Verdict
 judgeFrom w s d xs = judge (tripOn w d) (fresh s) 0 xs
 
--- refusals 1 to 7, then the letters; a ring destination is allowed
+-- refusals 1 to 7, then the letters; any destination in no block is allowed
 unfoldable pub judgement : ℕ → ℕ → List ℕ → Place → Place → List ℕ → Verdict
 judgement columns rows map s d xs =
     let w = marked (mesh columns rows map) in

@@ -38,6 +38,6 @@ ruleB B r c = upright B r c && (ahead B E 2 r c || ahead B W 2 r c)
 unfoldable pub unsafe : (ℕ → ℕ → Bool) → ℕ → ℕ → Bool
 unsafe B r c = ruleA B r c || ruleB B r c
 
--- a node in its row, one or two columns away, is bad
+-- a node in the row of (r, c), one or two columns away, is bad, of any account B
 unfoldable pub nearInRow : (ℕ → ℕ → Bool) → ℕ → ℕ → Bool
 nearInRow B r c = (ahead B E 1 r c || ahead B W 1 r c) || (ahead B E 2 r c || ahead B W 2 r c)

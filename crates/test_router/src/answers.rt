@@ -47,7 +47,7 @@ fn arrive(hops: u32, room: usize) -> u32 {
     hops
 }
 
-// Refusals 6 to 8, or 0. Outside the boxes, a node of one is near in the row exactly if the place is in the box grown by two columns each way.
+// Refusals 6 to 8, or 0. A place in no box has a node of one near in its row if it is in the box grown by two columns each way.
 fn refuse(size: Size, list: &[u8; 4096], n: usize, t: Trip) -> u32 {
     if is_off(size, t.row, t.column) {
         return REFUSED + 6;

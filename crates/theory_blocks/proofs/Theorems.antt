@@ -28,6 +28,10 @@ use Rattle.theory_blocks.proofs.Rings.{onRing-told, onRing-true}
 use Rattle.theory_blocks.proofs.Near.{near-blocks, near-sides}
 use Rattle.theory_blocks.proofs.Area.{detours-bounded}
 
+-- The ring that computes is the ring.
+pub ring-computes : (b : Block) (x y : ℕ) → onRing b x y ≡ true ↔ OnRing b x y
+ring-computes b x y = (onRing-told b x y, onRing-true b x y)
+
 -- Of any map with a number for each node.
 module _ (w : Mesh) (size : length (w .map) ≡ w .columns * w .rows) where
   -- the marking holds the faults
@@ -62,10 +66,6 @@ module _ (w : Mesh) (size : length (w .map) ≡ w .columns * w .rows) where
   -- no listed block is joined to a later one: the list's length is the number of blocks
   pub each-block-once : Pairs (Unjoined (bad (marked w))) (blocks (marked w))
   each-block-once = apart-unjoined (blocks-walled (marked w) marking-is-closed) blocks-are-apart
-
-  -- a ring by computing is the ring
-  pub ring-computes : (b : Block) (x y : ℕ) → onRing b x y ≡ true ↔ OnRing b x y
-  ring-computes b x y = (onRing-told b x y, onRing-true b x y)
 
   -- no place of a ring is bad
   pub ring-is-free : (b : Block) → Listed b (blocks (marked w)) → (x y : ℕ) → OnRing b x y → bad (marked w) x y ≡ false
