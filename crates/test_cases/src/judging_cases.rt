@@ -1,13 +1,13 @@
 // Judge a hand-in.
-use crate::prints::faults;
-use crate::prints::node;
-use crate::prints::print;
-use crate::prints::print_number;
-use crate::prints::print_request;
 use judging::judge;
 use mesh::Judged;
 use numbers::judged_code;
 use numbers::judged_index;
+use test_prints::faults;
+use test_prints::node;
+use test_prints::print;
+use test_prints::print_number;
+use test_prints::print_request;
 
 fn hand_in(p: u32, q: u32, source: u32, destination: u32, letters: &[u8]) -> Judged {
     let map = faults(p, q);

@@ -1,11 +1,11 @@
 // Mark blocks.
-use crate::prints::faults;
-use crate::prints::print;
-use crate::prints::print_answer;
-use crate::prints::print_faults;
-use crate::prints::print_number;
 use marking::mark_blocks;
 use numbers::marked_code;
+use test_prints::faults;
+use test_prints::print;
+use test_prints::print_answer;
+use test_prints::print_faults;
+use test_prints::print_number;
 
 fn mark(p: u32, q: u32, out: &mut [u8]) -> u32 {
     let map = faults(p, q);

@@ -1,10 +1,4 @@
 // Move on: the answer of each call, and the record after it.
-use crate::prints::faults;
-use crate::prints::node;
-use crate::prints::print;
-use crate::prints::print_number;
-use crate::prints::print_place;
-use crate::prints::print_request;
 use headings::letter;
 use mesh::Heading;
 use mesh::Last;
@@ -13,6 +7,12 @@ use mesh::Packet;
 use mesh::Stepped;
 use moving::moved_on;
 use numbers::refusal_number;
+use test_prints::faults;
+use test_prints::node;
+use test_prints::print;
+use test_prints::print_number;
+use test_prints::print_place;
+use test_prints::print_request;
 
 fn print_letter(h: Heading) {
     let text = [letter(h)];

@@ -1,11 +1,11 @@
 // Route. The output has dots where no letter is written.
-use crate::prints::faults;
-use crate::prints::node;
-use crate::prints::print;
-use crate::prints::print_answer;
-use crate::prints::print_request;
 use numbers::routed_code;
 use routing::route;
+use test_prints::faults;
+use test_prints::node;
+use test_prints::print;
+use test_prints::print_answer;
+use test_prints::print_request;
 
 fn send(p: u32, q: u32, source: u32, destination: u32, out: &mut [u8]) -> u32 {
     let map = faults(p, q);

@@ -1,7 +1,7 @@
 // Letters to legs, and legs to letters. The output of a file is 9 where no byte is written, that of letters has dots where no letter is.
-use crate::prints::print;
-use crate::prints::print_number;
 use c_legs::leg_refusal_number;
+use test_prints::print;
+use test_prints::print_number;
 use theory_legs::Converted;
 use to_legs::letters_to_legs;
 use to_letters::legs_to_letters;

@@ -1,10 +1,10 @@
 // Whole tables of sends. The output has dots where no letter is written, and an entry without an answer is 0.
-use crate::prints::faults;
-use crate::prints::print;
-use crate::prints::print_answer;
-use crate::prints::print_number;
 use batch::route_batch;
 use numbers::refusal_number;
+use test_prints::faults;
+use test_prints::print;
+use test_prints::print_answer;
+use test_prints::print_number;
 use theory_batch::Batched;
 
 fn print_batched(answer: Batched) {

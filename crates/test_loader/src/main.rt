@@ -1,0 +1,9 @@
+// What a board loader asks for: the worked tables of sends and the worked files of legs. Prints each request with its answer; the file stdout
+// has the answers of the paper. Meshes have 10 columns and 8 rows.
+mod batch_cases;
+mod leg_cases;
+
+fn main() {
+    batch_cases::try_tables();
+    leg_cases::try_legs();
+}
