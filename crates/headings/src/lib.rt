@@ -2,7 +2,7 @@
 ghost use mathlib.Core.Path.{_≡_};
 ghost use mathlib.Core.Bool.{_||_};
 ghost use Rattle.mesh.specs.declared.Heading.the-variants.{North, South};
-ghost use Rattle.mesh.specs.Headings.{letter, same, named, direction, headingNumber, lastNumber, lastOf};
+ghost use Rattle.mesh.specs.Headings.{letter, same, lastIs, named, code, direction, headingNumber, lastNumber, lastOf};
 ghost use Rattle.headings.specs.Codes.{Counts, Codes};
 use mesh::Heading;
 use mesh::Last;
@@ -19,10 +19,32 @@ pub fn letter(h: Heading) -> u8
     }
 }
 
+fn heading_number(h: Heading) -> u32
+    ensures { λ x. ⌜ x ≡ headingNumber h ⌝ }
+{
+    match h {
+        Heading::East => return 1,
+        Heading::North => return 2,
+        Heading::South => return 3,
+        Heading::West => return 4,
+    }
+}
+
+// By their numbers: they follow the order of the variants, so that this is one comparison.
 pub fn is_same(g: Heading, h: Heading) -> bool
     ensures { λ x. ⌜ x ≡ same g h ⌝ }
 {
-    letter(g) == letter(h)
+    heading_number(g) == heading_number(h)
+}
+
+// Whether the last hop was that way.
+pub fn is_last(l: Last, h: Heading) -> bool
+    ensures { λ x. ⌜ x ≡ lastIs l h ⌝ }
+{
+    match l {
+        Last::None => return false,
+        Last::Made(g) => return is_same(g, h),
+    }
 }
 
 pub fn is_vertical(h: Heading) -> bool
@@ -69,6 +91,18 @@ pub fn letter_code(x: u8) -> u32
     one_if(x == b'N') + 2 * one_if(x == b'W') + 3 * one_if(x == b'S')
 }
 
+// The code of a direction: 0 E, 1 N, 2 W, 3 S.
+pub fn code(h: Heading) -> u32
+    ensures { λ k. ⌜ k ≡ code h ⌝ }
+{
+    match h {
+        Heading::East => return 0,
+        Heading::North => return 1,
+        Heading::South => return 3,
+        Heading::West => return 2,
+    }
+}
+
 // The direction of a code.
 pub fn direction(code: u32) -> Heading
     ensures { λ h. ⌜ h ≡ direction code ⌝ }
@@ -83,17 +117,6 @@ pub fn direction(code: u32) -> Heading
         return Heading::West;
     }
     Heading::South
-}
-
-fn heading_number(h: Heading) -> u32
-    ensures { λ x. ⌜ x ≡ headingNumber h ⌝ }
-{
-    match h {
-        Heading::East => return 1,
-        Heading::North => return 2,
-        Heading::South => return 3,
-        Heading::West => return 4,
-    }
 }
 
 // The number of a last hop: 0 none, 1 E, 2 N, 3 S, 4 W.

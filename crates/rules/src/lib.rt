@@ -4,12 +4,12 @@ ghost use mathlib.Core.Bool.{false};
 ghost use Rattle.mesh.specs.declared.Last.the-variants.{Made};
 ghost use Rattle.mesh.specs.declared.Place.{Place};
 ghost use Rattle.mesh.specs.Mesh.{Mesh, mesh};
-ghost use Rattle.mesh.specs.Headings.{lastIs};
 ghost use Rattle.mesh.specs.Rules.{Trip, tripOn, side, toward, own, stopped, again, inRow, leaving, across, nearing, otherRow};
 ghost use Rattle.mesh.specs.Hops.{at, tripOf};
 ghost use Rattle.mesh.specs.Walk.{hopAt};
 ghost use Rattle.nodes.specs.Sized.{OnMesh};
 ghost use Rattle.rules.specs.Rows.{inItsRow, nearsRow};
+use headings::is_last;
 use headings::is_same;
 use headings::is_vertical;
 use mesh::Column;
@@ -137,16 +137,6 @@ pub fn is_in_row(p: Packet) -> bool
     ensures { λ x. ⌜ x ≡ inItsRow p ⌝ }
 {
     p.place.row.0 == p.destination.row.0
-}
-
-// Whether the last hop was that way.
-fn is_last(l: Last, h: Heading) -> bool
-    ensures { λ x. ⌜ x ≡ lastIs l h ⌝ }
-{
-    match l {
-        Last::None => return false,
-        Last::Made(g) => return is_same(g, h),
-    }
 }
 
 // Whether the last hop leads toward the destination's row.

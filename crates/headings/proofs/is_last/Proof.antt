@@ -1,8 +1,8 @@
 -- A packet without a last hop has none that way; else the two headings are compared. Assumes nothing.
 use borrow.Author.Needs.{needs}
 use Rattle.mesh.specs.Headings.{lastIs}
-use Rattle.rules.proofs.is_last.Statement.{statement}
-use Rattle.rules.proofs.is_last.Tie as tie
+use Rattle.headings.proofs.is_last.Statement.{statement}
+use Rattle.headings.proofs.is_last.Tie as tie
 
 enum-told : tie.Need-enum-told
 enum-told c = search needs
