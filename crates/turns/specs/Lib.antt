@@ -1,1 +1,1 @@
-pub mod About
+pub mod Arithmetic
