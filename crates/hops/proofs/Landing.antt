@@ -7,8 +7,9 @@ use native.Mathlib.Omega.{arith}
 use borrow.Author.Tests.{ltb-true, leb-true}
 use Rattle.mesh.specs.declared.Heading.{Heading}
 use Rattle.mesh.specs.declared.Heading.the-variants.{East as E, North as N, South as S, West as W}
+use Rattle.mesh.specs.declared.Packet.{Packet}
 use Rattle.mesh.specs.Headings.{rowAfter, columnAfter}
-use Rattle.mesh.specs.Hops.{stays}
+use Rattle.mesh.specs.Hops.{moved, stays, movedPacket}
 use Rattle.nodes.specs.Sized.{OnMesh}
 use Rattle.hops.specs.Moved.{Lands}
 
@@ -31,3 +32,12 @@ module _ {columns rows : ℕ} {map : List ℕ} {r c : ℕ} (on : OnMesh columns 
   stays-on N e = record { sized = on .sized; row = ltb-true (r + 1) rows e; column = on .column }
   stays-on S e = record { sized = on .sized; row = omega arith; column = on .column }
   stays-on W e = record { sized = on .sized; row = on .row; column = omega arith }
+
+-- and so is the packet's
+pub packet-lands : {columns rows : ℕ} {map : List ℕ} (h : Heading) (p : Packet) {q : Packet} →
+    OnMesh columns rows map (p .place .row .0) (p .place .column .0) → stays columns rows h (p .place .row .0) (p .place .column .0) ≡ true →
+    q ≡ movedPacket h p → OnMesh columns rows map (q .place .row .0) (q .place .column .0)
+unfolding moved
+packet-lands h p on s e =
+    let there = stays-on on h s in
+    rw e (record { sized = there .sized; row = there .row; column = there .column })

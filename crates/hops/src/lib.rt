@@ -7,7 +7,8 @@ ghost use Rattle.mesh.specs.Nodes.{bad};
 ghost use Rattle.mesh.specs.Hops.{stays, isThere};
 ghost use Rattle.nodes.specs.Sized.{Sized, OnMesh};
 ghost use Rattle.hops.specs.Moved.{rowBy, columnBy, movedBy, Lands, Reaches, Free};
-ghost use Rattle.hops.specs.Tests.{Tests};
+ghost use Rattle.hops.specs.Tests.{Tests, entered};
+use headings::is_last;
 use mesh::Broken;
 use mesh::Column;
 use mesh::Heading;
@@ -94,18 +95,31 @@ pub fn count_free(columns: u32, rows: u32, marks: &[u8], s: Place, h: Heading, n
     n
 }
 
-// What is wrong with a hop, tested in the order of the paper.
+// The last test of a hop, of the packet after it: whether it enters a block.
+fn enter(columns: u32, rows: u32, marks: &[u8], after: Packet) -> Tested
+    requires { ⌜ OnMesh columns rows (now marks) (after .place .row .0) (after .place .column .0) ⌝ }
+    ensures { λ x. ⌜ x ≡ entered (mesh columns rows (now (marks .entry))) after ⌝ }
+{
+    if is_bad_node(columns, rows, marks, after.place.row, after.place.column) {
+        return Tested::Wrong(Mistake::EntersBlock);
+    }
+    Tested::Lawful(after)
+}
+
+// What is wrong with a hop, tested in the order of the paper. A hop straight on makes no turn.
 pub fn test_hop(columns: u32, rows: u32, marks: &[u8], p: Packet, h: Heading) -> Tested
     requires { ⌜ OnMesh columns rows (now marks) (p .place .row .0) (p .place .column .0) ⌝ }
     ensures { λ x. ⌜ Tests (mesh columns rows (now (marks .entry))) p h x ⌝ }
 {
-    let r = p.place.row;
     let c = p.place.column;
     let l = p.last;
-    if !stays(columns, rows, r, c, h) {
+    if !stays(columns, rows, p.place.row, c, h) {
         return Tested::Wrong(Mistake::LeavesMesh);
     }
     let after = moved_by(p, h, 1);
+    if is_last(l, h) {
+        return enter(columns, rows, marks, after);
+    }
     if turns_back(l, h) {
         return Tested::Wrong(Mistake::Reverses);
     }
@@ -115,10 +129,7 @@ pub fn test_hop(columns: u32, rows: u32, marks: &[u8], p: Packet, h: Heading) ->
         Broken::Rule1 => return Tested::Wrong(Mistake::BreaksRule1),
         Broken::Rule2 => return Tested::Wrong(Mistake::BreaksRule2),
     }
-    if is_bad_node(columns, rows, marks, after.place.row, after.place.column) {
-        return Tested::Wrong(Mistake::EntersBlock);
-    }
-    Tested::Lawful(after)
+    enter(columns, rows, marks, after)
 }
 
 // Whether the packet is at its destination.
