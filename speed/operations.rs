@@ -1,11 +1,11 @@
-//! The operations on 64 x 64, the proved library against rust/plain_mesh.rs. A case is a list of calls; each checks and marks its map. A
-//! table of sends is one call; singles-N sets it against as many single calls of the library. Letters to legs and back, against
-//! rust/plain_legs.rs, are one call and have no map.
+//! The operations on 64 x 64 (turning: on 64 x 2), the proved library against rust/plain_mesh.rs. A case is a list of calls; each checks and
+//! marks its map. A table of sends is one call; singles-N sets it against as many single calls of the library. Letters to legs and back,
+//! against rust/plain_legs.rs, are one call and have no map.
 //!   operations CASE                   compares answers and output bytes; prints what was done, and then in one line the units of work in
 //!                                     the list and its nanoseconds, each call at its best, proved and plain
 //!   operations CASE proved|plain N    makes the first N calls and prints nothing, for counting instructions
-//! Cases: most-rounds, dense, judging, judging-nothing, one-map, many-maps, moving, table-N, singles-N, and by what is written legs-L and
-//! letters-L, where L is straight, mixed or turning. `speed/run` builds it and shows its figures.
+//! Cases: most-rounds, dense, judging, turning, either of these also with -nothing, one-map, many-maps, moving, table-N, singles-N, and by
+//! what is written legs-L and letters-L, where L is straight, mixed or turning. `speed/run` builds it and shows its figures.
 #[path = "../rust/plain_legs.rs"]
 mod plain_legs;
 #[path = "../rust/plain_mesh.rs"]
@@ -23,7 +23,8 @@ type Trip = [(u32, u32); 2]; // source, destination
 
 /// All that a call is given stands here, so that the compiler cannot make the plain code for one size.
 struct Case {
-    side: u32,
+    columns: u32,
+    rows: u32,
     maps: Vec<Vec<u8>>, // one, or one for each trip
     trips: Vec<Trip>,
     letters: Vec<u8>,
@@ -67,11 +68,11 @@ impl Case {
 
 /// The plain mesh of a map.
 fn plain(case: &Case, map: &[u8]) -> Checked {
-    plain_mesh::Mesh::new(case.side, case.side, map)
+    plain_mesh::Mesh::new(case.columns, case.rows, map)
 }
 
 fn proved_mark(case: &Case, lent: &mut Lent) -> u32 {
-    raw::mark(case.side, case.side, case.map(), &mut lent.out)
+    raw::mark(case.columns, case.rows, case.map(), &mut lent.out)
 }
 
 fn plain_mark(case: &Case, lent: &mut Lent) -> u32 {
@@ -80,7 +81,7 @@ fn plain_mark(case: &Case, lent: &mut Lent) -> u32 {
 
 fn proved_judge(case: &Case, lent: &mut Lent) -> u32 {
     let [s, d] = case.trips[0];
-    raw::judge(case.side, case.side, case.map(), s, d, &case.letters, &mut lent.index)
+    raw::judge(case.columns, case.rows, case.map(), s, d, &case.letters, &mut lent.index)
 }
 
 fn plain_judge(case: &Case, lent: &mut Lent) -> u32 {
@@ -90,7 +91,7 @@ fn plain_judge(case: &Case, lent: &mut Lent) -> u32 {
 
 fn proved_route(case: &Case, lent: &mut Lent) -> u32 {
     let (map, [s, d]) = case.begin(lent);
-    raw::route(case.side, case.side, map, s, d, &mut lent.out)
+    raw::route(case.columns, case.rows, map, s, d, &mut lent.out)
 }
 
 fn plain_route(case: &Case, lent: &mut Lent) -> u32 {
@@ -99,7 +100,7 @@ fn plain_route(case: &Case, lent: &mut Lent) -> u32 {
 }
 
 fn proved_table(case: &Case, lent: &mut Lent) -> u32 {
-    raw::route_batch(case.side, case.side, case.map(), &case.sends, &mut lent.answers, &mut lent.out, &mut lent.index)
+    raw::route_batch(case.columns, case.rows, case.map(), &case.sends, &mut lent.answers, &mut lent.out, &mut lent.index)
 }
 
 fn plain_table(case: &Case, lent: &mut Lent) -> u32 {
@@ -110,7 +111,7 @@ fn plain_table(case: &Case, lent: &mut Lent) -> u32 {
 fn proved_singles(case: &Case, lent: &mut Lent) -> u32 {
     let mut at = 0;
     for (send, entry) in case.sends.chunks(4).zip(&mut lent.answers) {
-        *entry = raw::route(case.side, case.side, case.map(), (send[0], send[1]), (send[2], send[3]), &mut lent.out[at..]);
+        *entry = raw::route(case.columns, case.rows, case.map(), (send[0], send[1]), (send[2], send[3]), &mut lent.out[at..]);
         at += if *entry < REFUSED { *entry as usize } else { 0 };
     }
     lent.index[0] = at as u64;
@@ -129,7 +130,7 @@ fn move_by(case: &Case, lent: &mut Lent, call: impl Fn(&[u8], &mut [u32]) -> u32
 }
 
 fn proved_move(case: &Case, lent: &mut Lent) -> u32 {
-    move_by(case, lent, |map, packet| raw::move_on(case.side, case.side, map, packet))
+    move_by(case, lent, |map, packet| raw::move_on(case.columns, case.rows, map, packet))
 }
 
 fn plain_move(case: &Case, lent: &mut Lent) -> u32 {
@@ -211,14 +212,36 @@ fn long_walk() -> Vec<u8> {
     letters
 }
 
+/// A lawful walk of 189 letters in two rows, west and back, that turns at two letters of three: NW and SW in even columns, EN and ES in odd ones.
+fn turning_walk() -> Vec<u8> {
+    let mut letters = vec![];
+    for run in 0..64 {
+        let along: &[u8] = match run {
+            0 => b"W",
+            1..=31 => b"WW",
+            32 => b"E",
+            _ => b"EE",
+        };
+        letters.extend_from_slice(along);
+        letters.push(if run % 2 == 0 { b'N' } else { b'S' });
+    }
+    letters.pop();
+    letters
+}
+
 fn marking(map: Vec<u8>) -> Case {
     let (trips, sides) = (vec![[(0, 63); 2]], [proved_mark as fn(&Case, &mut Lent) -> u32, plain_mark]);
-    Case { side: 64, maps: vec![map], trips, letters: vec![], file: vec![], sends: vec![], room: NODES + 8, calls: 1, sides }
+    Case { columns: 64, rows: 64, maps: vec![map], trips, letters: vec![], file: vec![], sends: vec![], room: NODES + 8, calls: 1, sides }
 }
 
 /// The faults are in rows 61 and 62, out of the walk's way.
 fn judging(letters: Vec<u8>) -> Case {
     Case { letters, sides: [proved_judge, plain_judge], ..marking(Random(7).map(20, 61)) }
+}
+
+/// On two rows, so that marking is soon done.
+fn judging_turns(letters: Vec<u8>) -> Case {
+    Case { rows: 2, maps: vec![vec![0; 128]], ..judging(letters) }
 }
 
 fn routing(maps: Vec<Vec<u8>>, trips: Vec<Trip>) -> Case {
@@ -272,6 +295,8 @@ fn find_case(name: &str) -> Case {
         "dense" => marking(rng.map(1000, 1)),
         "judging" => judging(long_walk().into_iter().cycle().take(1_000_000).collect()),
         "judging-nothing" => judging(vec![]),
+        "turning" => judging_turns(turning_walk()),
+        "turning-nothing" => judging_turns(vec![]),
         "one-map" => routing(vec![rng.map(200, 1)], (0..requests()).map(|_| rng.trip()).collect()),
         "many-maps" => {
             // from 7 to 1,000 faults
@@ -320,6 +345,10 @@ fn compare(name: &str, case: &Case) -> (String, u64) {
             let (given, index) = (case.letters.len(), lents[0].index[0]);
             let done = format!("{name}: {given} letters, both answer {last} at {index}; no lawful walk has over 4158");
             (done, given.min(index as usize + 1) as u64)
+        }
+        "turning" | "turning-nothing" => {
+            let given = case.letters.len();
+            (format!("judging on 64 x 2: {given} letters, two of three turn, both answer {last} at {}", lents[0].index[0]), given as u64)
         }
         "one-map" => (
             format!("route, one map, {faults} faults: {calls} requests, {served} served, {hops} hops, outputs equal"),

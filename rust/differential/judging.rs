@@ -11,6 +11,7 @@ pub struct Judging {
     answers: [u64; 18], // by number; 0 passed
     with_index: [u64; 18], // of these, with room for the index
     nulls: [u64; 3],    // map, letters, index
+    turns: [u64; 32],   // tested, by the letter before, the letter after and the column's remainder by 2
 }
 
 /// A hand-in: a route, a lawful walk or letters at random; perhaps damaged.
@@ -67,13 +68,29 @@ impl Judging {
         compared.request("judge", case, &[&case.map, &hand_in], &[&index], [answer, expected], detail);
         self.answers[answer as usize] += 1;
         self.with_index[answer as usize] += (length > 0) as u64;
+        match answer {
+            0 | 16 => self.count_turns(s, letters),
+            13..=15 | 17 if length > 0 => self.count_turns(s, &letters[..=index.room()[0] as usize]),
+            _ => {}
+        }
     }
 
-    /// Prints counts, and says whether every answer, with an index too, and every null pointer was met.
+    /// The turns of these letters, each of which was tested for its turn.
+    fn count_turns(&mut self, s: Place, letters: &[u8]) {
+        let number = |letter| b"ENSW".iter().position(|&x| x == letter).unwrap();
+        let mut at = node(s);
+        for pair in letters.windows(2) {
+            at = after(at, pair[0]);
+            self.turns[8 * number(pair[0]) + 2 * number(pair[1]) + at.1 as usize % 2] += 1;
+        }
+    }
+
+    /// Prints counts, and says whether every answer, with an index too, every null pointer and every turn was met.
     pub fn report(&self) -> bool {
         println!("judge: passed, numbers 1 to 17: {:?}; null for map, letters, index: {:?}", self.answers, self.nulls);
         println!("    with room for the index: {:?}", self.with_index);
+        println!("    turns, by their letters in even and odd columns: {:?}", self.turns);
         let all = || (0..8).chain(11..18);
-        met(&self.answers, all()) && met(&self.with_index, all()) && met(&self.nulls, 0..3)
+        met(&self.answers, all()) && met(&self.with_index, all()) && met(&self.nulls, 0..3) && met(&self.turns, 0..32)
     }
 }
