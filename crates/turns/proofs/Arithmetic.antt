@@ -12,7 +12,7 @@ use Rattle.mesh.specs.declared.Broken.the-variants.{Neither, Rule1, Rule2}
 use Rattle.mesh.specs.declared.Heading.{Heading}
 use Rattle.mesh.specs.declared.Heading.the-variants.{East as E, North as N, South as S, West as W}
 use Rattle.mesh.specs.Headings.{opposite, same, code, direction}
-use Rattle.mesh.specs.Parity.{remainder, turnsWest}
+use Rattle.mesh.specs.Parity.{remainder, permitsWest, turnsWest}
 use Rattle.mesh.specs.Turns.{breaks, turnBreaks, reverses}
 use Rattle.mesh.proofs.Bools.{and-both}
 use Rattle.mesh.proofs.Headings.{direction-of-code}
@@ -32,7 +32,7 @@ rule-of-number Rule1 = refl
 rule-of-number Rule2 = refl
 
 -- a rule looks at the kind of the column alone
-pub rule-of-turn : (west : ℕ → Bool) (c p : ℕ) → west c ≡ eqb p 0 → (g h : Heading) →
+pub rule-of-turn : (west : ℕ → Bool) (c p : ℕ) → west c ≡ permitsWest p → (g h : Heading) →
     brokenRule (code g) (code h) p ≡ ruleNumber (turnBreaks west c g h)
 unfolding brokenRule turnBreaks breaks
 rule-of-turn west c p e g h = rw (e, direction-of-code g, direction-of-code h)
@@ -72,7 +72,7 @@ number-few Rule2 = omega arith
 
 pub rule-few : (a b p : ℕ) → brokenRule a b p ≤ 2
 unfolding brokenRule
-rule-few a b p = number-few (turnBreaks (λ c. eqb c 0) p (direction a) (direction b))
+rule-few a b p = number-few (turnBreaks permitsWest p (direction a) (direction b))
 
 pub about-few : {a b p t : ℕ} → (a < 4) × (b < 4) × (p < 2) → t ≡ quarterTurns a b → p * (t + 2) ≤ 5
 about-few few e = mul-le-mul {n₂ = 1} {m₂ = 5} (omega (arith, few .2)) (omega (arith, e))

@@ -8,7 +8,7 @@ use borrow.Author.Tests.{eqb-true}
 use lib.Dec.{eqb}
 use Rattle.mesh.specs.declared.Heading.{Heading}
 use Rattle.mesh.specs.Headings.{same, code, direction}
-use Rattle.mesh.specs.Parity.{remainder, turnsWest}
+use Rattle.mesh.specs.Parity.{remainder, permitsWest, turnsWest}
 use Rattle.mesh.specs.Turns.{breaks, turnBreaks, reverses}
 use Rattle.mesh.proofs.Headings.{code-few}
 use Rattle.turns.specs.Arithmetic.{ruleNumber, brokenRule, quarterTurns, formula, isRight, every, right}
@@ -27,8 +27,8 @@ formula-of-codes a b p few =
     let of-b = every-one 4 (λ y. every 2 (isRight a y)) of-a b (few .1) in
     eqb-true _ _ (every-one 2 (isRight a b) of-b p (few .2))
 
--- and for all headings and columns, whichever columns permit NW and SW: p is to be 0 in those, and 1 in the others
-pub formula-of-turns : (west : ℕ → Bool) (c p : ℕ) → p < 2 → west c ≡ eqb p 0 → (g h : Heading) →
+-- and for all headings and columns, whichever columns permit NW and SW, with a remainder that says so
+pub formula-of-turns : (west : ℕ → Bool) (c p : ℕ) → p < 2 → west c ≡ permitsWest p → (g h : Heading) →
     formula (code g) (code h) p ≡ ruleNumber (turnBreaks west c g h)
 formula-of-turns west c p few e g h =
     formula-of-codes (code g) (code h) p (code-few g, code-few h, few) ∙ rule-of-turn west c p e g h

@@ -6,6 +6,7 @@ use lib.Dec.{eqb}
 use Rattle.mesh.specs.declared.Broken.{Broken}
 use Rattle.mesh.specs.declared.Broken.the-variants.{Neither, Rule1, Rule2}
 use Rattle.mesh.specs.Headings.{direction}
+use Rattle.mesh.specs.Parity.{permitsWest}
 use Rattle.mesh.specs.Turns.{turnBreaks}
 
 -- the number of the rule, 0 for neither
@@ -18,9 +19,9 @@ ruleNumber Rule2 = 2
 unfoldable pub ruleOf : ℕ → Broken
 ruleOf n = cond (eqb n 0) Neither (cond (eqb n 1) Rule1 Rule2)
 
--- what is to be found: the rule that the turn breaks, by its number; remainder 0 permits NW and SW
+-- what is to be found: the rule that the turn breaks, by its number
 unfoldable pub brokenRule : ℕ → ℕ → ℕ → ℕ
-brokenRule a b p = ruleNumber (turnBreaks (λ c. eqb c 0) p (direction a) (direction b))
+brokenRule a b p = ruleNumber (turnBreaks permitsWest p (direction a) (direction b))
 
 -- quarter turns to the left: 0 straight on, 1 left, 2 back, 3 right
 abbrev pub quarterTurns : ℕ → ℕ → ℕ
