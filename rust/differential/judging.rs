@@ -11,7 +11,7 @@ pub struct Judging {
     answers: [u64; 18], // by number; 0 passed
     with_index: [u64; 18], // of these, with room for the index
     nulls: [u64; 3],    // map, letters, index
-    turns: [u64; 32],   // tested, by the letter before, the letter after and the column's remainder by 2
+    turns: [u64; 32],   // hops after another, by the two letters and the remainder by 2 of the column between
 }
 
 /// A hand-in: a route, a lawful walk or letters at random; perhaps damaged.
@@ -75,7 +75,7 @@ impl Judging {
         }
     }
 
-    /// The turns of these letters, each of which was tested for its turn.
+    /// All of these letters were judged, the last one at least up to its turn.
     fn count_turns(&mut self, s: Place, letters: &[u8]) {
         let number = |letter| b"ENSW".iter().position(|&x| x == letter).unwrap();
         let mut at = node(s);
@@ -85,11 +85,11 @@ impl Judging {
         }
     }
 
-    /// Prints counts, and says whether every answer, with an index too, every null pointer and every turn was met.
+    /// Prints counts, and says whether every answer, with an index too, every null pointer and every pair of hops was met.
     pub fn report(&self) -> bool {
         println!("judge: passed, numbers 1 to 17: {:?}; null for map, letters, index: {:?}", self.answers, self.nulls);
         println!("    with room for the index: {:?}", self.with_index);
-        println!("    turns, by their letters in even and odd columns: {:?}", self.turns);
+        println!("    hops after another, by their letters in even and odd columns: {:?}", self.turns);
         let all = || (0..8).chain(11..18);
         met(&self.answers, all()) && met(&self.with_index, all()) && met(&self.nulls, 0..3) && met(&self.turns, 0..32)
     }

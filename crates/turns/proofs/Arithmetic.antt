@@ -64,7 +64,7 @@ back-reverses W N = refl
 back-reverses W S = refl
 back-reverses W W = refl
 
--- its numbers are small
+-- the numbers of the formula are small
 number-few : (x : Broken) → ruleNumber x ≤ 2
 number-few Neither = omega arith
 number-few Rule1 = omega arith
