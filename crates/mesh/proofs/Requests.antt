@@ -4,6 +4,7 @@ use mathlib.Core.Bool.{true, false}
 use Prim.Native.Nat.{_<_}
 use borrow.Author.Tests.{ltb-true, not-false}
 use lib.Dec.{ltb}
+use Rattle.mesh.specs.declared.Network.{Network}
 use Rattle.mesh.specs.declared.Place.{Place}
 use Rattle.mesh.specs.Mesh.{Mesh, onMesh}
 use Rattle.mesh.specs.Tests.{first}
@@ -29,10 +30,10 @@ pub record Placed (w : Mesh) (s d : Place) : Type 0 where
   pub destination-free : inBlock w d ≡ false
 
 -- a request that refusals 6 to 9 let pass
-pub record Request (w : Mesh) (s d : Place) : Type 0 where
+pub record Request (n : Network) (w : Mesh) (s d : Place) : Type 0 where
   pub placed : Placed w s d
   pub row-clear : blockNearInRow w d ≡ false
-  pub served : unserved w s d ≡ false
+  pub served : unserved n w s d ≡ false
 
 module _ (w : Mesh) (s d : Place) where
   pub place-numbered : numbered (placeTests w s d) ≡ true
@@ -43,9 +44,9 @@ module _ (w : Mesh) (s d : Place) where
   unfolding tripTests placeTests numbered
   trip-numbered = refl
 
-  pub request-numbered : numbered (requestTests w s d) ≡ true
+  pub request-numbered : (n : Network) → numbered (requestTests n w s d) ≡ true
   unfolding requestTests tripTests placeTests numbered
-  request-numbered = refl
+  request-numbered n = refl
 
   pub placed : first (placeTests w s d) ≡ 0 → Placed w s d
   unfolding None placeTests
@@ -55,8 +56,8 @@ module _ (w : Mesh) (s d : Place) where
       let free = or-none (inBlock w s) (inBlock w d) within in
       record { source-on = on .0; destination-on = on .1; source-free = free .0; destination-free = free .1 }
 
-  pub request : first (requestTests w s d) ≡ 0 → Request w s d
+  pub request : {n : Network} → first (requestTests n w s d) ≡ 0 → Request n w s d
   unfolding None requestTests tripTests placeTests
-  request h =
-      let (off, (within, (near, (shut, _)))) = first-none _ request-numbered h in
+  request {n} h =
+      let (off, (within, (near, (shut, _)))) = first-none _ (request-numbered n) h in
       record { placed = placed (clear-before (placeTests w s d) _ h); row-clear = near; served = shut }

@@ -1,5 +1,5 @@
 -- The starred bench cases of document 01, on 10 columns by 8 rows, and the one of document 02, E4, in one list with one claim; and in others of
--- their own what judging says of turns, and which destinations near a block are refused. Assumes nothing.
+-- their own what judging says of turns, which destinations near a block are refused, and the second network. Assumes nothing.
 use mathlib.Core.Bool.{Bool, true, _&&_}
 use mathlib.Core.List.{List, [], _∷_}
 use Prim.Native.Nat.{ℕ, _+_, _-_, _*_}
@@ -10,6 +10,8 @@ use lib.Dec.{T, eqb}
 use lib.ListN.{length, set, replicate}
 use Rattle.mesh.specs.Mesh as places
 use Rattle.mesh.specs.Mesh.{mesh, onMesh}
+use Rattle.mesh.specs.declared.Network.{Network}
+use Rattle.mesh.specs.declared.Network.the-variants.{First, Second}
 use Rattle.mesh.specs.declared.Place.{Place}
 use Rattle.mesh.specs.Headings.{rowAfter, columnAfter, opposite, letters, same, named}
 use Rattle.mesh.specs.Parity.{turnsWest}
@@ -20,7 +22,7 @@ use Rattle.mesh.specs.Blocks.{Block, run, corner, blockAt, select, block
 use Rattle.mesh.specs.Turns.{breaks, turnBreaks, hopBreaks, reverses, turnsBack}
 use Rattle.mesh.specs.Rules.{blocked, side, toward, own, stopped, again, atDestination, inRow, leaving, across, nearing, otherRow, hop, tripOn}
 use Rattle.mesh.specs.Hops.{moved, stays, fresh}
-use Rattle.mesh.specs.Walk.{arrived, hopAt, walk, shutIn, distance, detours, bound}
+use Rattle.mesh.specs.Walk.{arrived, hopAt, walk, shutIn, meetsEdge, distance, detours, bound}
 use Rattle.mesh.specs.Maps.{badSize, badLength, some, badByte, allowed, misplacedAt, misplaced, mapTests}
 use Rattle.mesh.specs.Requests.{offMesh, inBlock, blockNearInRow, unserved, placeTests, tripTests, requestTests}
 use Rattle.mesh.specs.Routing.{hopsOf, sendTests, routeRefusal}
@@ -56,26 +58,26 @@ bytes (Text._∷_ c s) = code c ∷ bytes s
 abbrev pub place : ℕ × ℕ → Place
 place p = places.place (p .0) (p .1)
 
--- room for 100 letters
-unfoldable pub refusal : List (ℕ × ℕ) → ℕ × ℕ → ℕ × ℕ → ℕ
-refusal faults s d = routeRefusal 10 8 (faultMap faults) (place s) (place d) (replicate 100 0)
+-- on a network, with room for 100 letters
+unfoldable pub refusal : Network → List (ℕ × ℕ) → ℕ × ℕ → ℕ × ℕ → ℕ
+refusal n faults s d = routeRefusal n 10 8 (faultMap faults) (place s) (place d) (replicate 100 0)
 
-unfoldable pub verdict : List (ℕ × ℕ) → ℕ × ℕ → ℕ × ℕ → String → Verdict
-verdict faults s d text = judgement 10 8 (faultMap faults) (place s) (place d) (bytes text)
+unfoldable pub verdict : Network → List (ℕ × ℕ) → ℕ × ℕ → ℕ × ℕ → String → Verdict
+verdict n faults s d text = judgement n 10 8 (faultMap faults) (place s) (place d) (bytes text)
 
-unfoldable pub holds : Case → Bool
-holds (makes faults expect) = sameList (edges (blocks (marked (mesh 10 8 (faultMap faults))))) expect
-holds (routes faults s d expect) =
-    eqb (refusal faults s d) 0 && sameList (letters (hopsOf (marked (mesh 10 8 (faultMap faults))) (place s) (place d))) (bytes expect)
-holds (refuses faults s d expect) = eqb (refusal faults s d) expect
-holds (rings faults p) = someBlock (λ b. onRing b (p .0) (p .1)) (blocks (marked (mesh 10 8 (faultMap faults))))
-holds (walks faults s d expect) =
-    sameList (letters (walk (length (bytes expect)) (tripOn (marked (mesh 10 8 (faultMap faults))) (place d)) (fresh (place s)))) (bytes expect)
-holds (judges faults s d text k i) = eqb (verdictCode (verdict faults s d text)) k && eqb (verdictIndex (verdict faults s d text)) i
+unfoldable pub holds : Network → Case → Bool
+holds n (makes faults expect) = sameList (edges (blocks (marked (mesh 10 8 (faultMap faults))))) expect
+holds n (routes faults s d expect) =
+    eqb (refusal n faults s d) 0 && sameList (letters (hopsOf n (marked (mesh 10 8 (faultMap faults))) (place s) (place d))) (bytes expect)
+holds n (refuses faults s d expect) = eqb (refusal n faults s d) expect
+holds n (rings faults p) = someBlock (λ b. onRing b (p .0) (p .1)) (blocks (marked (mesh 10 8 (faultMap faults))))
+holds n (walks faults s d expect) =
+    sameList (letters (walk (length (bytes expect)) (tripOn n (marked (mesh 10 8 (faultMap faults))) (place d)) (fresh (place s)))) (bytes expect)
+holds n (judges faults s d text k i) = eqb (verdictCode (verdict n faults s d text)) k && eqb (verdictIndex (verdict n faults s d text)) i
 
-unfoldable pub allHold : List Case → Bool
-allHold [] = true
-allHold (x ∷ xs) = holds x && allHold xs
+unfoldable pub allHold : Network → List Case → Bool
+allHold n [] = true
+allHold n (x ∷ xs) = holds n x && allHold n xs
 
 unfoldable pub A : List (ℕ × ℕ)
 A = (3, 4) ∷ (4, 5) ∷ []
@@ -107,11 +109,11 @@ starred =
     routes A (1, 5) (5, 4) "WNWWNNNEE" ∷
     []
 
-pub starred-hold : T (allHold starred)
+pub starred-hold : T (allHold First starred)
 unfolding starred allHold holds A B C refusal bytes edges onMesh rowAfter columnAfter letters turnsWest first isBad bad ahead
     upright ruleA ruleB unsafe become advance round sameList settle run corner blockAt select blocks reaches someBlock nearInRow
     blocked side toward own stopped again atDestination inRow leaving across nearing otherRow hop moved arrived hopAt walk
-    shutIn distance detours bound badSize badLength some badByte allowed misplacedAt misplaced mapTests offMesh inBlock blockNearInRow
+    shutIn meetsEdge distance detours bound badSize badLength some badByte allowed misplacedAt misplaced mapTests offMesh inBlock blockNearInRow
     unserved placeTests tripTests requestTests hopsOf sendTests routeRefusal
 starred-hold = tt
 
@@ -134,7 +136,7 @@ turns =
     judges A (0, 3) (0, 4) "ES" 12 1 ∷
     []
 
-pub turns-hold : T (allHold turns)
+pub turns-hold : T (allHold First turns)
 unfolding turns allHold holds A B verdict bytes onMesh rowAfter columnAfter opposite same named turnsWest first isBad bad ahead upright ruleA
     ruleB unsafe become advance round sameList settle blocked moved stays breaks turnBreaks hopBreaks reverses turnsBack arrived
     badSize badLength some badByte allowed misplacedAt misplaced mapTests offMesh inBlock placeTests hopTests letterMistake follow unless
@@ -163,11 +165,46 @@ nearBlocks =
     judges D (4, 1) (4, 2) "NEEEESW" 17 6 ∷
     []
 
-pub nearBlocks-hold : T (allHold nearBlocks)
+pub nearBlocks-hold : T (allHold First nearBlocks)
 unfolding nearBlocks allHold holds A D refusal verdict bytes onMesh rowAfter columnAfter letters opposite same named turnsWest first isBad bad ahead
     upright ruleA ruleB unsafe become advance round sameList settle run corner blockAt select blocks reaches onRing someBlock nearInRow
     blocked side toward own stopped again atDestination inRow leaving across nearing otherRow hop moved stays arrived hopAt walk
-    shutIn distance detours bound badSize badLength some badByte allowed misplacedAt misplaced mapTests offMesh inBlock blockNearInRow
+    shutIn meetsEdge distance detours bound badSize badLength some badByte allowed misplacedAt misplaced mapTests offMesh inBlock blockNearInRow
     unserved placeTests tripTests requestTests hopsOf sendTests routeRefusal breaks turnBreaks hopBreaks reverses turnsBack
     hopTests letterMistake follow unless judge judgeFrom judgement
 nearBlocks-hold = tt
+
+-- The second network (document 02, E6): the same sends as above, in other columns; a source shut in on one network and served on the other;
+-- sources in column 0; and each of the four turns in a column of either kind.
+unfoldable pub second : List Case
+second =
+    routes A (1, 5) (6, 5) "NWWNNNNEE" ∷
+    routes A (1, 4) (3, 9) "WNNNNEEESSEEE" ∷
+    routes A (3, 0) (3, 9) "EENNEEEESSEEE" ∷
+    routes A (4, 9) (4, 0) "WWNWWWWSWWW" ∷
+    routes C (3, 0) (3, 9) "EENEESSEEEENE" ∷
+    routes B (4, 5) (6, 5) "NN" ∷
+    refuses D (4, 4) (6, 4) 9 ∷
+    refuses D (4, 4) (4, 0) 9 ∷
+    routes D (4, 4) (4, 9) "EEEEE" ∷
+    refuses A (3, 0) (4, 9) 9 ∷
+    walks A (3, 0) (4, 9) "W" ∷
+    routes B (4, 0) (4, 9) "EENEEEESEEE" ∷
+    judges A (1, 5) (2, 6) "EN" 0 2 ∷
+    judges A (1, 6) (2, 7) "EN" 14 1 ∷
+    judges A (1, 7) (2, 6) "NW" 0 2 ∷
+    judges A (1, 6) (2, 5) "NW" 14 1 ∷
+    judges A (1, 5) (0, 6) "ES" 0 2 ∷
+    judges A (1, 6) (0, 7) "ES" 17 1 ∷
+    judges A (1, 7) (0, 6) "SW" 0 2 ∷
+    judges A (1, 6) (0, 5) "SW" 17 1 ∷
+    []
+
+pub second-hold : T (allHold Second second)
+unfolding second allHold holds A B C D refusal verdict bytes onMesh rowAfter columnAfter letters opposite same named turnsWest first isBad bad ahead
+    upright ruleA ruleB unsafe become advance round sameList settle run corner blockAt select blocks reaches someBlock nearInRow
+    blocked side toward own stopped again atDestination inRow leaving across nearing otherRow hop moved stays arrived hopAt walk
+    shutIn meetsEdge distance detours bound badSize badLength some badByte allowed misplacedAt misplaced mapTests offMesh inBlock blockNearInRow
+    unserved placeTests tripTests requestTests hopsOf sendTests routeRefusal breaks turnBreaks hopBreaks reverses turnsBack
+    hopTests letterMistake follow unless judge judgeFrom judgement
+second-hold = tt

@@ -3,6 +3,7 @@
 use mathlib.Core.Bool.{Bool, not, _&&_}
 use Prim.Native.Nat.{ℕ, _+_}
 use lib.Dec.{leb, ltb, eqb}
+use Rattle.mesh.specs.declared.Network.{Network}
 use Rattle.mesh.specs.declared.Packet.{Packet}
 use Rattle.mesh.specs.declared.Place.{Place}
 use Rattle.mesh.specs.Mesh.{Mesh, place}
@@ -42,9 +43,9 @@ lawful t p h =
 abbrev pub at : Packet → At
 at p = record { row = p .place .row .0; column = p .place .column .0; last = p .last }
 
--- its trip on a marked mesh
-abbrev pub tripOf : Mesh → Packet → Trip
-tripOf w p = tripOn w (p .destination)
+-- its trip on a marked mesh, with the turns of a network
+abbrev pub tripOf : Network → Mesh → Packet → Trip
+tripOf n w p = tripOn n w (p .destination)
 
 -- it is at its destination
 unfoldable pub isThere : Packet → Bool

@@ -1,4 +1,4 @@
--- Judge a hand-in (document 01, "The four operations"). Assumes nothing.
+-- Judge a hand-in (document 01, "The four operations"), on either network (document 02, E6). Assumes nothing.
 use mathlib.Core.Bool.{not, cond}
 use mathlib.Core.List.{List, [], _∷_, _++_}
 use Prim.Native.Nat.{ℕ, zero, suc}
@@ -6,6 +6,7 @@ use Rattle.mesh.specs.declared.Letter.{Letter}
 use Rattle.mesh.specs.declared.Letter.the-variants.{Hop, Other}
 use Rattle.mesh.specs.declared.Judged.{Judged}
 use Rattle.mesh.specs.declared.Judged.the-variants.{Passed, Failed, Refused}
+use Rattle.mesh.specs.declared.Network.{Network}
 use Rattle.mesh.specs.declared.Place.{Place}
 use Rattle.mesh.specs.Mesh.{Mesh, mesh}
 use Rattle.mesh.specs.Headings.{Heading, named}
@@ -74,11 +75,11 @@ verdictIndex (passed n) = n
 verdictIndex (failed k i) = i
 
 -- on a marked mesh: the letters from the source on
-unfoldable pub judgeFrom : Mesh → Place → Place → List ℕ → Verdict
-judgeFrom w s d xs = judge (tripOn w d) (fresh s) 0 xs
+unfoldable pub judgeFrom : Network → Mesh → Place → Place → List ℕ → Verdict
+judgeFrom n w s d xs = judge (tripOn n w d) (fresh s) 0 xs
 
 -- refusals 1 to 7, then the letters; any destination in no block is allowed
-unfoldable pub judgement : ℕ → ℕ → List ℕ → Place → Place → List ℕ → Verdict
-judgement columns rows map s d xs =
+unfoldable pub judgement : Network → ℕ → ℕ → List ℕ → Place → Place → List ℕ → Verdict
+judgement network columns rows map s d xs =
     let w = marked (mesh columns rows map) in
-    unless (first (mapTests columns rows map ++ placeTests w s d)) 0 (judgeFrom w s d xs)
+    unless (first (mapTests columns rows map ++ placeTests w s d)) 0 (judgeFrom network w s d xs)

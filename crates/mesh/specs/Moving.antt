@@ -1,10 +1,11 @@
--- Move on: a packet is moved by one hop (document 01, "The four operations"). Assumes nothing.
+-- Move on: a packet is moved by one hop (document 01, "The four operations"), on either network (document 02, E6). Assumes nothing.
 use mathlib.Core.Path.{_≡_}
 use mathlib.Core.Bool.{Bool, not, cond, _&&_}
 use mathlib.Core.List.{List, _++_}
 use Prim.Native.Nat.{ℕ, zero, suc}
 use Rattle.mesh.specs.declared.Moved.{Moved}
 use Rattle.mesh.specs.declared.Moved.the-variants.{Hop, Arrived, Refused}
+use Rattle.mesh.specs.declared.Network.{Network}
 use Rattle.mesh.specs.declared.Packet.{Packet}
 use Rattle.mesh.specs.Mesh.{Mesh, mesh}
 use Rattle.mesh.specs.Headings.{Heading, letter}
@@ -41,24 +42,24 @@ moveRefusal columns rows map p =
     first (mapTests columns rows map ++ tripTests w (p .place) (p .destination))
 
 -- the hop by the rules from where the packet is, on a marked mesh
-unfoldable pub hopFrom : Mesh → Packet → Heading
-hopFrom w p = hopAt (tripOf w p) (at p)
+unfoldable pub hopFrom : Network → Mesh → Packet → Heading
+hopFrom n w p = hopAt (tripOf n w p) (at p)
 
 -- this one hop is lawful
-unfoldable pub mayHop : Mesh → Packet → Bool
-mayHop w p = lawful (tripOf w p) (at p) (hopFrom w p)
+unfoldable pub mayHop : Network → Mesh → Packet → Bool
+mayHop n w p = lawful (tripOf n w p) (at p) (hopFrom n w p)
 
 -- the refusal of that number, if it is not 0; then "arrived" if it is there; then 9 if this one hop is unlawful; else the letter
-unfoldable pub told : ℕ → Mesh → Packet → Told
-told zero w p = cond (isThere p) there (cond (mayHop w p) (hopped (letter (hopFrom w p))) (refused 9))
-told (suc k) w p = refused (suc k)
+unfoldable pub told : ℕ → Network → Mesh → Packet → Told
+told zero n w p = cond (isThere p) there (cond (mayHop n w p) (hopped (letter (hopFrom n w p))) (refused 9))
+told (suc k) n w p = refused (suc k)
 
 -- the record after it: in "arrived" and every refusal unchanged
-unfoldable pub recordAfter : ℕ → Mesh → Packet → Packet
-recordAfter zero w p = cond (not (isThere p) && mayHop w p) (movedPacket (hopFrom w p) p) p
-recordAfter (suc k) w p = p
+unfoldable pub recordAfter : ℕ → Network → Mesh → Packet → Packet
+recordAfter zero n w p = cond (not (isThere p) && mayHop n w p) (movedPacket (hopFrom n w p) p) p
+recordAfter (suc k) n w p = p
 
 -- the promise of "Move on" for a packet's record before and after it
-pub record MovesOn (columns rows : ℕ) (map : List ℕ) (p : Packet) (m : Moved) (after : Packet) : Type 0 where
-  pub answers : movedTold m ≡ told (moveRefusal columns rows map p) (marked (mesh columns rows map)) p
-  pub leaves : after ≡ recordAfter (moveRefusal columns rows map p) (marked (mesh columns rows map)) p
+pub record MovesOn (network : Network) (columns rows : ℕ) (map : List ℕ) (p : Packet) (m : Moved) (after : Packet) : Type 0 where
+  pub answers : movedTold m ≡ told (moveRefusal columns rows map p) network (marked (mesh columns rows map)) p
+  pub leaves : after ≡ recordAfter (moveRefusal columns rows map p) network (marked (mesh columns rows map)) p

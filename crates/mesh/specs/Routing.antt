@@ -1,9 +1,10 @@
--- Route (document 01, "The four operations"). Assumes nothing.
+-- Route (document 01, "The four operations"), on either network (document 02, E6). Assumes nothing.
 use mathlib.Core.Path.{_≡_}
 use mathlib.Core.List.{List, [], _∷_, _++_}
 use Prim.Native.Nat.{ℕ, suc}
 use lib.Dec.{ltb}
 use lib.ListN.{length}
+use Rattle.mesh.specs.declared.Network.{Network}
 use Rattle.mesh.specs.declared.Place.{Place}
 use Rattle.mesh.specs.declared.Routed.{Routed}
 use Rattle.mesh.specs.declared.Routed.the-variants.{Hops, Refused}
@@ -25,22 +26,22 @@ routedAnswer (Hops n) = returned n
 routedAnswer (Refused r) = refused (number r)
 
 -- the hops of a request on a marked mesh; that they end at the destination within the bound is shown in theory_walk
-unfoldable pub hopsOf : Mesh → Place → Place → List Heading
-hopsOf w s d =
-    let t = tripOn w d in
+unfoldable pub hopsOf : Network → Mesh → Place → Place → List Heading
+hopsOf n w s d =
+    let t = tripOn n w d in
     walk (suc (bound t (blocks w) (s .row .0) (s .column .0))) t (fresh s)
 
 -- on a marked mesh: refusals 6 to 9; 10 the route is longer than the output
-unfoldable pub sendTests : Mesh → Place → Place → List ℕ → List Test
-sendTests w s d out = requestTests w s d ++ (ltb (length out) (length (hopsOf w s d)) gives 10 ∷ [])
+unfoldable pub sendTests : Network → Mesh → Place → Place → List ℕ → List Test
+sendTests n w s d out = requestTests n w s d ++ (ltb (length out) (length (hopsOf n w s d)) gives 10 ∷ [])
 
 -- refusals 1 to 10
-unfoldable pub routeRefusal : ℕ → ℕ → List ℕ → Place → Place → List ℕ → ℕ
-routeRefusal columns rows map s d out =
+unfoldable pub routeRefusal : Network → ℕ → ℕ → List ℕ → Place → Place → List ℕ → ℕ
+routeRefusal network columns rows map s d out =
     let w = marked (mesh columns rows map) in
-    first (mapTests columns rows map ++ sendTests w s d out)
+    first (mapTests columns rows map ++ sendTests network w s d out)
 
 -- it returns the number of hops, and writes their letters
-pub record Routes (columns rows : ℕ) (map : List ℕ) (s d : Place) (out : List ℕ) (r : Routed) (after : List ℕ) : Type 0 where
-  pub answers : routedAnswer r ≡ answer (routeRefusal columns rows map s d out) (length (hopsOf (marked (mesh columns rows map)) s d))
-  pub writes : after ≡ written (routeRefusal columns rows map s d out) (letters (hopsOf (marked (mesh columns rows map)) s d)) out
+pub record Routes (network : Network) (columns rows : ℕ) (map : List ℕ) (s d : Place) (out : List ℕ) (r : Routed) (after : List ℕ) : Type 0 where
+  pub answers : routedAnswer r ≡ answer (routeRefusal network columns rows map s d out) (length (hopsOf network (marked (mesh columns rows map)) s d))
+  pub writes : after ≡ written (routeRefusal network columns rows map s d out) (letters (hopsOf network (marked (mesh columns rows map)) s d)) out

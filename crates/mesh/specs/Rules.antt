@@ -3,6 +3,7 @@
 use mathlib.Core.Bool.{Bool, false, not, cond, _&&_, _||_}
 use Prim.Native.Nat.{ℕ}
 use lib.Dec.{ltb, eqb}
+use Rattle.mesh.specs.declared.Network.{Network}
 use Rattle.mesh.specs.declared.Place.{Place}
 use Rattle.mesh.specs.Mesh.{Mesh}
 use Rattle.mesh.specs.Headings.{Heading, E, N, S, W, Last, none, made}
@@ -19,14 +20,14 @@ pub record Trip : Type 0 where
   pub R : ℕ
   pub C : ℕ
 
--- to a destination on a marked mesh, with the turns of document 01
-abbrev pub tripOn : Mesh → Place → Trip
-tripOn w d =
+-- to a destination on a marked mesh, with the turns of a network
+abbrev pub tripOn : Network → Mesh → Place → Trip
+tripOn n w d =
     record {
       columns = w .columns;
       rows = w .rows;
       bad = nodes.bad w;
-      west = turnsWest;
+      west = turnsWest n;
       R = d .row .0;
       C = d .column .0;
     }
@@ -43,14 +44,14 @@ side t c = cond (ltb c (t .C)) E W
 unfoldable pub toward : Trip → ℕ → Heading
 toward t r = cond (ltb r (t .R)) N S
 
--- the columns of a side's own turns, EN and ES or NW and SW: odd for E, even for W
+-- the columns of a side's own turns, EN and ES or NW and SW: on the first network odd for E, even for W
 unfoldable pub own : Trip → Heading → ℕ → Bool
 own t E c = not (t .west c)
 own t N c = false
 own t S c = false
 own t W c = t .west c
 
--- stopped: the next node to the side is in a block; or the second one is, and c is odd (side E) or even (side W)
+-- stopped: the next node to the side is in a block; or the second one is, and c is odd (side E) or even (side W), as the first network has it
 unfoldable pub stopped : Trip → ℕ → ℕ → Bool
 stopped t r c = blocked t (side t c) 1 r c || (own t (side t c) c && blocked t (side t c) 2 r c)
 
@@ -74,7 +75,7 @@ inRow t r c l = cond (stopped t r c) (again l) (side t c)
 unfoldable pub leaving : Trip → ℕ → ℕ → Heading → Heading
 leaving t r c h = cond (stopped t r c) h (side t c)
 
--- rules 4 (s is E) and 6 (s is W): hop toward if c is odd (4) or even (6) and that node isn't in a block; else s
+-- rules 4 (s is E) and 6 (s is W): hop toward if c is odd (4) or even (6), as the first network has it, and that node isn't in a block; else s
 unfoldable pub across : Trip → ℕ → ℕ → Heading → Heading
 across t r c s = cond (own t s c && not (blocked t (toward t r) 1 r c)) (toward t r) s
 

@@ -24,10 +24,14 @@ unfoldable pub walk : ℕ → Trip → At → List Heading
 walk zero t p = []
 walk (suc n) t p = let on = hopAt t p ∷ walk n t (moved (hopAt t p) p) in cond (arrived t p) [] on
 
--- what refusal 9 comes to: the source's column is odd (NW and SW are forbidden there), its west neighbour is in a block,
+-- shut in: the source's column is odd, on the second network even (NW and SW are forbidden there), its west neighbour is in a block,
 -- and the destination is in another row or to the west
 unfoldable pub shutIn : Trip → ℕ → ℕ → Bool
 shutIn t r c = not (t .west c) && (blocked t W 1 r c && (not (eqb r (t .R)) || ltb (t .C) c))
+
+-- meets the edge: the source is in column 0, NW and SW are forbidden there, and the destination is in another row. On the first network none does
+unfoldable pub meetsEdge : Trip → ℕ → ℕ → Bool
+meetsEdge t r c = not (t .west c) && (eqb c 0 && not (eqb r (t .R)))
 
 -- the larger less the smaller
 unfoldable pub distance : ℕ → ℕ → ℕ

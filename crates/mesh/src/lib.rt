@@ -18,6 +18,12 @@ pub enum Heading {
     West,
 }
 
+// Which turns are forbidden in odd columns, and which in even ones: on the second network the two are exchanged.
+pub enum Network {
+    First,
+    Second,
+}
+
 // A packet's last hop.
 pub enum Last {
     None,

@@ -7,6 +7,7 @@ use borrow.Author.Tests.{lt-ltb, le-ltb}
 use lib.ListN.{length, getD, take, drop}
 use lib.Seq.{take-at, drop-at}
 use Rattle.mesh.specs.declared.Heading.{Heading}
+use Rattle.mesh.specs.declared.Network.{Network}
 use Rattle.mesh.specs.Numbers.{Answer, answer, refusalCode, answerCode}
 use Rattle.mesh.specs.Routing.{routeRefusal}
 use Rattle.mesh.proofs.Lists.{letters-length}
@@ -26,33 +27,33 @@ unfolding call told answer refusalCode unlessRefused
 call-tells zero hs short = rw (lt-ltb (length hs) 65536 (short refl)) (sym (letters-length hs))
 call-tells (suc k) hs short = rw (le-ltb (65536 + suc k) 65536 (omega arith))
 
-module _ (columns rows : ℕ) (faults : List ℕ) where
-  route-tells : (x : Send) (free : List ℕ) → Tells (routeCall columns rows faults x free)
+module _ (network : Network) (columns rows : ℕ) (faults : List ℕ) where
+  route-tells : (x : Send) (free : List ℕ) → Tells (routeCall network columns rows faults x free)
   unfolding routeCall
   route-tells x free =
-      call-tells (routeRefusal columns rows faults (x .source) (x .destination) free) _
-      (λ e. let clear = served-clear columns rows faults (x .source) (x .destination) free e in
-      omega (arith, routes-are-short columns rows faults (x .source) (x .destination) clear))
+      call-tells (routeRefusal network columns rows faults (x .source) (x .destination) free) _
+      (λ e. let clear = served-clear network columns rows faults (x .source) (x .destination) free e in
+      omega (arith, routes-are-short network columns rows faults (x .source) (x .destination) clear))
 
-  alone-tells : (x : Send) → Tells (alone columns rows faults x)
+  alone-tells : (x : Send) → Tells (alone network columns rows faults x)
   unfolding alone
   alone-tells x =
-      call-tells (requestRefusal columns rows faults (x .source) (x .destination)) _
-      (λ e. omega (arith, routes-are-short columns rows faults (x .source) (x .destination) e))
+      call-tells (requestRefusal network columns rows faults (x .source) (x .destination)) _
+      (λ e. omega (arith, routes-are-short network columns rows faults (x .source) (x .destination) e))
 
   -- so a call's letters can be read off its output
-  pub alone-front : (x : Send) {out after : List ℕ} {a : Answer} → Gives (alone columns rows faults x) out a after →
-      take (told (answerCode a)) after ≡ alone columns rows faults x .letters
-  alone-front x g = rw (g .answers, g .writes) (take-at (alone columns rows faults x .letters) _ _ (sym (alone-tells x)))
+  pub alone-front : (x : Send) {out after : List ℕ} {a : Answer} → Gives (alone network columns rows faults x) out a after →
+      take (told (answerCode a)) after ≡ alone network columns rows faults x .letters
+  alone-front x g = rw (g .answers, g .writes) (take-at (alone network columns rows faults x .letters) _ _ (sym (alone-tells x)))
 
   pub calls-parted : (xs : List Send) (out rest : List ℕ) →
-      parts (answersOf (calls (routeCall columns rows faults) xs out)) (lettersOf (calls (routeCall columns rows faults) xs out) ++ rest) ≡
-      map (λ c. c .letters) (calls (routeCall columns rows faults) xs out)
+      parts (answersOf (calls (routeCall network columns rows faults) xs out)) (lettersOf (calls (routeCall network columns rows faults) xs out) ++ rest) ≡
+      map (λ c. c .letters) (calls (routeCall network columns rows faults) xs out)
   unfolding calls answersOf lettersOf parts
   calls-parted [] out rest = refl
   calls-parted (x ∷ xs) out rest =
-      let c = routeCall columns rows faults x out in
-      let more = lettersOf (calls (routeCall columns rows faults) xs (drop (length (c .letters)) out)) ++ rest in
+      let c = routeCall network columns rows faults x out in
+      let more = lettersOf (calls (routeCall network columns rows faults) xs (drop (length (c .letters)) out)) ++ rest in
       let tells = route-tells x out in
       rw (append-assoc, take-at (c .letters) more _ (sym tells), drop-at (c .letters) more _ (sym tells))
       (ap (λ ps. c .letters ∷ ps) (calls-parted xs (drop (length (c .letters)) out) rest))

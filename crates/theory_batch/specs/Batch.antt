@@ -1,4 +1,4 @@
--- A whole table of sends in one call (document 02, E2): what is answered and written. Assumes nothing.
+-- A whole table of sends in one call (document 02, E2), on either network (E6): what is answered and written. Assumes nothing.
 use mathlib.Core.Path.{_≡_}
 use mathlib.Core.Bool.{_||_}
 use mathlib.Core.List.{List, [], _∷_, _++_, map}
@@ -6,6 +6,7 @@ use Prim.Native.Nat.{ℕ, zero, suc}
 use lib.Dec.{ltb}
 use lib.ListN.{length, drop}
 use Rattle.mesh.specs.declared.Heading.{Heading}
+use Rattle.mesh.specs.declared.Network.{Network}
 use Rattle.mesh.specs.Mesh.{mesh}
 use Rattle.mesh.specs.Headings.{letters}
 use Rattle.mesh.specs.Tests.{_gives_, first}
@@ -35,9 +36,9 @@ unfoldable pub call : ℕ → List Heading → Call
 call k hs = record { answer = answer k (length hs); letters = unlessRefused k (letters hs) }
 
 -- Route called for a send, with the output that is free
-unfoldable pub routeCall : ℕ → ℕ → List ℕ → Send → List ℕ → Call
-routeCall columns rows faults x free =
-    call (routeRefusal columns rows faults (x .source) (x .destination) free) (hopsOf (marked (mesh columns rows faults)) (x .source) (x .destination))
+unfoldable pub routeCall : Network → ℕ → ℕ → List ℕ → Send → List ℕ → Call
+routeCall network columns rows faults x free =
+    call (routeRefusal network columns rows faults (x .source) (x .destination) free) (hopsOf network (marked (mesh columns rows faults)) (x .source) (x .destination))
 
 -- The table
 
@@ -56,8 +57,8 @@ lettersOf [] = []
 lettersOf (c ∷ cs) = c .letters ++ lettersOf cs
 
 -- the calls of a table
-abbrev pub batch : ℕ → ℕ → List ℕ → List ℕ → List ℕ → List Call
-batch columns rows faults sends out = calls (routeCall columns rows faults) (sendsOf sends) out
+abbrev pub batch : Network → ℕ → ℕ → List ℕ → List ℕ → List ℕ → List Call
+batch network columns rows faults sends out = calls (routeCall network columns rows faults) (sendsOf sends) out
 
 -- The operation
 
@@ -73,7 +74,7 @@ batchRefusal columns rows faults sends answers =
     first (mapTests columns rows faults ++ ((uneven sends || ltb (length answers) (length (sendsOf sends))) gives 18 ∷ []))
 
 -- it returns the number of letters, writes the answers into the answer list and the letters into the output
-pub record RoutesBatch (columns rows : ℕ) (faults sends answers out : List ℕ) (r : Batched) (answers′ out′ : List ℕ) : Type 0 where
-  pub returns : batchedAnswer r ≡ answer (batchRefusal columns rows faults sends answers) (length (lettersOf (batch columns rows faults sends out)))
-  pub enters : answers′ ≡ written (batchRefusal columns rows faults sends answers) (answersOf (batch columns rows faults sends out)) answers
-  pub writes : out′ ≡ written (batchRefusal columns rows faults sends answers) (lettersOf (batch columns rows faults sends out)) out
+pub record RoutesBatch (network : Network) (columns rows : ℕ) (faults sends answers out : List ℕ) (r : Batched) (answers′ out′ : List ℕ) : Type 0 where
+  pub returns : batchedAnswer r ≡ answer (batchRefusal columns rows faults sends answers) (length (lettersOf (batch network columns rows faults sends out)))
+  pub enters : answers′ ≡ written (batchRefusal columns rows faults sends answers) (answersOf (batch network columns rows faults sends out)) answers
+  pub writes : out′ ≡ written (batchRefusal columns rows faults sends answers) (lettersOf (batch network columns rows faults sends out)) out

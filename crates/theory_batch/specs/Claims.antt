@@ -5,16 +5,17 @@ use mathlib.Core.List.{List, [], _∷_, _++_, map}
 use Prim.Native.Nat.{ℕ}
 use lib.Dec.{ltb}
 use lib.ListN.{length, take, drop}
+use Rattle.mesh.specs.declared.Network.{Network}
 use Rattle.mesh.specs.Numbers.{Answer}
 use Rattle.theory_demands.specs.Demand3.{requestRefusal, hops}
 use Rattle.theory_batch.specs.declared.Send.{Send}
 use Rattle.theory_batch.specs.Batch.{Call, call, lettersOf}
 
-module _ (columns rows : ℕ) (faults : List ℕ) where
+module _ (network : Network) (columns rows : ℕ) (faults : List ℕ) where
   -- a single call of Route with room for its letters: refused by one of 1 to 9, or served
   unfoldable pub alone : Send → Call
   alone x =
-      call (requestRefusal columns rows faults (x .source) (x .destination)) (hops columns rows faults (x .source) (x .destination))
+      call (requestRefusal network columns rows faults (x .source) (x .destination)) (hops network columns rows faults (x .source) (x .destination))
 
   -- the room that the letters of all take
   unfoldable pub needed : List Send → ℕ

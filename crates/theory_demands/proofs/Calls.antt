@@ -13,6 +13,8 @@ use lib.Seq.{drop-cons}
 use Rattle.mesh.specs.declared.Heading.{Heading}
 use Rattle.mesh.specs.declared.Heading.the-variants.{East as E}
 use Rattle.mesh.specs.declared.Packet.{Packet}
+use Rattle.mesh.specs.declared.Network.{Network}
+use Rattle.mesh.specs.declared.Network.the-variants.{First, Second}
 use Rattle.mesh.specs.declared.Place.{Place}
 use Rattle.mesh.specs.Headings.{letter, letters}
 use Rattle.mesh.specs.Rules.{Trip}
@@ -20,10 +22,10 @@ use Rattle.mesh.specs.Hops.{At, moved, fresh}
 use Rattle.mesh.specs.Walk.{hopAt}
 use Rattle.mesh.specs.Moving.{hopped, there, movedTold, MovesOn}
 use Rattle.mesh.proofs.Lists.{same-eq, same-refl}
-use Rattle.mesh.proofs.Bools.{value, and-both}
+use Rattle.mesh.proofs.Bools.{true-false, value, and-both}
 use Rattle.theory_walk.specs.Claims.{reached, Hops}
 use Rattle.theory_judging.specs.Claims.{tripTo}
-use Rattle.theory_demands.specs.Demand3.{Call, Keeps, Refused, lettersThenArrived, isSame, Calls, no-calls, same, other, sameAnswers, hops, recordAt, Goes, no-more, letter-next, arrived-now, refused-now}
+use Rattle.theory_demands.specs.Demand3.{Call, sameNetwork, Keeps, Refused, lettersThenArrived, isSame, Calls, no-calls, same, other, sameAnswers, hops, recordAt, Goes, no-more, letter-next, arrived-now, refused-now}
 use Rattle.theory_demands.proofs.Requests.{Clear}
 use Rattle.theory_demands.proofs.Hops.{way}
 use Rattle.theory_demands.proofs.Steps.{hopped-refused, there-refused, refused-still, hops-answer, hops-record, arrived-answer, arrived-record}
@@ -40,59 +42,70 @@ letter-of [] k h i = absurd (omega arith)
 letter-of (g ∷ hs) zero h i = refl
 letter-of (g ∷ hs) (suc k) h i = letter-of hs k h (omega arith)
 
-module _ (columns rows : ℕ) (map : List ℕ) where
+same-network : (m n : Network) → sameNetwork m n ≡ true → m ≡ n
+same-network First First e = refl
+same-network First Second e = true-false e refl
+same-network Second First e = true-false e refl
+same-network Second Second e = refl
+
+network-itself : (n : Network) → sameNetwork n n ≡ true
+network-itself First = refl
+network-itself Second = refl
+
+module _ (network : Network) (columns rows : ℕ) (map : List ℕ) where
   -- the test of a call holds exactly if it was given the same
-  pub is-same : (c : Call) → isSame columns rows map c ≡ true ↔ ((c .columns ≡ columns) × (c .rows ≡ rows) × (c .map ≡ map))
+  pub is-same : (c : Call) → isSame network columns rows map c ≡ true ↔ ((c .network ≡ network) × (c .columns ≡ columns) × (c .rows ≡ rows) × (c .map ≡ map))
   unfolding isSame
   is-same c = (
     λ e.
-        let (p, f) = and-both {a = eqb (c .columns) columns} e in
+        let (o, d) = and-both {a = sameNetwork (c .network) network} e in
+        let (p, f) = and-both {a = eqb (c .columns) columns} d in
         let (q, g) = and-both {a = eqb (c .rows) rows} f in
-        (eqb-true _ _ p, eqb-true _ _ q, same-eq _ _ g),
-    λ e. rw (e .0, e .1, e .2, eq-eqb columns columns refl, eq-eqb rows rows refl, same-refl map),
+        (same-network _ _ o, eqb-true _ _ p, eqb-true _ _ q, same-eq _ _ g),
+    λ e. rw (e .0, e .1, e .2, e .3, network-itself network, eq-eqb columns columns refl, eq-eqb rows rows refl, same-refl map),
   )
 
   -- then it kept the promise for the same
-  keeps-same : {p : Packet} {c : Call} → Keeps p c → isSame columns rows map c ≡ true → MovesOn columns rows map p (c .answer) (c .after)
-  keeps-same {c = c} keeps e = let (i, j, k) = is-same c .0 e in rw (i, j, k) at keeps
+  keeps-same : {p : Packet} {c : Call} → Keeps p c → isSame network columns rows map c ≡ true → MovesOn network columns rows map p (c .answer) (c .after)
+  keeps-same {c = c} keeps e = let (h, i, j, k) = is-same c .0 e in rw (h, i, j, k) at keeps
 
-module _ {columns rows : ℕ} {map : List ℕ} {s d : Place} (clear : Clear columns rows map s d) where
+module _ {network : Network} {columns rows : ℕ} {map : List ℕ} {s d : Place} (clear : Clear network columns rows map s d) where
   abbrev hs : List Heading
-  hs = hops columns rows map s d
+  hs = hops network columns rows map s d
 
   abbrev shown : ℕ → Packet
-  shown = recordAt columns rows map s d
+  shown = recordAt network columns rows map s d
 
   abbrev reach : ℕ → At
-  reach k = reached k (tripTo columns rows map d) (fresh s)
+  reach k = reached k (tripTo network columns rows map d) (fresh s)
 
-  -- A call with the same mesh and map, when k letters have been returned.
-  module _ (k : ℕ) {p : Packet} {c : Call} (stands : p ≡ shown k) (keeps : Keeps p c) (e : isSame columns rows map c ≡ true) where
-    kept : MovesOn columns rows map (shown k) (c .answer) (c .after)
-    kept = rw stands at (keeps-same columns rows map keeps e)
+  -- A call with the same mesh, map and network, when k letters have been returned.
+  module _ (k : ℕ) {p : Packet} {c : Call} (stands : p ≡ shown k) (keeps : Keeps p c) (e : isSame network columns rows map c ≡ true) where
+    kept : MovesOn network columns rows map (shown k) (c .answer) (c .after)
+    kept = rw stands at (keeps-same network columns rows map keeps e)
 
     module _ (h : k < length hs) where
-      here : Hops (tripTo columns rows map d) (reach k) (getD hs k E)
+      here : Hops (tripTo network columns rows map d) (reach k) (getD hs k E)
       here = way clear k (omega arith) .hops E h
 
       letter-told : movedTold (c .answer) ≡ hopped (getD (letters hs) k 0)
-      letter-told = hops-answer (clear .passed) (reach k) (way clear k (omega arith) .place) kept here ∙ rw (letter-of hs k E h)
+      letter-told = hops-answer network (clear .passed) (reach k) (way clear k (omega arith) .place) kept here ∙ rw (letter-of hs k E h)
 
       moved-on : c .after ≡ shown (suc k)
       moved-on =
-          hops-record (clear .passed) (reach k) (way clear k (omega arith) .place) kept here ∙ rw (here .by-rule, reached-next (tripTo columns rows map d) k (fresh s))
+          hops-record network (clear .passed) (reach k) (way clear k (omega arith) .place) kept here ∙ rw (here .by-rule, reached-next (tripTo network columns rows map d) k (fresh s))
 
     module _ (h : k ≡ length hs) where
       arrived-told : movedTold (c .answer) ≡ there
-      arrived-told = let o = way clear k (omega arith) in arrived-answer (clear .passed) (reach k) (o .place) kept (o .ends h)
+      arrived-told = let o = way clear k (omega arith) in arrived-answer network (clear .passed) (reach k) (o .place) kept (o .ends h)
 
       stays-there : c .after ≡ shown k
-      stays-there = let o = way clear k (omega arith) in arrived-record (clear .passed) (reach k) (o .place) kept (o .ends h)
+      stays-there = let o = way clear k (omega arith) in arrived-record network (clear .passed) (reach k) (o .place) kept (o .ends h)
 
   -- so it is not refused
-  not-refused : (k : ℕ) {p : Packet} {c : Call} → k ≤ length hs → p ≡ shown k → Keeps p c → Refused c → isSame columns rows map c ≡ false
+  not-refused : (k : ℕ) {p : Packet} {c : Call} → k ≤ length hs → p ≡ shown k → Keeps p c → Refused c → isSame network columns rows map c ≡ false
   not-refused k {c = c} h stands keeps ref =
-      elim (value (isSame columns rows map c)) [
+      elim (value (isSame network columns rows map c)) [
         | inr f ↦ f
         | inl e ↦
             elim (decLe (suc k) (length hs)) [
@@ -102,8 +115,8 @@ module _ {columns rows : ℕ} {map : List ℕ} {s d : Place} (clear : Clear colu
       ]
 
   -- the calls when k letters have been returned
-  pub goes : (k : ℕ) {p : Packet} {calls : List Call} → k ≤ length hs → p ≡ shown k → Calls columns rows map p calls →
-      Goes columns rows map s d k calls
+  pub goes : (k : ℕ) {p : Packet} {calls : List Call} → k ≤ length hs → p ≡ shown k → Calls network columns rows map p calls →
+      Goes network columns rows map s d k calls
   goes k h stands no-calls = no-more
   goes k h stands (same keeps e calls) =
       elim (decLe (suc k) (length hs)) [
@@ -119,15 +132,15 @@ module _ {columns rows : ℕ} {map : List ℕ} {s d : Place} (clear : Clear colu
       let left = refused-still keeps (ref .1) ∙ stands in
       refused-now (not-refused k h stands keeps ref) ref left (goes k h left calls)
 
--- the answers of those with the same mesh and map
-pub answers-from : {columns rows : ℕ} {map : List ℕ} {s d : Place} {k : ℕ} {calls : List Call} → Goes columns rows map s d k calls →
-    sameAnswers columns rows map calls ≡ lettersThenArrived (length (sameAnswers columns rows map calls)) (drop k (hops columns rows map s d))
+-- the answers of those with the same mesh, map and network
+pub answers-from : {network : Network} {columns rows : ℕ} {map : List ℕ} {s d : Place} {k : ℕ} {calls : List Call} → Goes network columns rows map s d k calls →
+    sameAnswers network columns rows map calls ≡ lettersThenArrived (length (sameAnswers network columns rows map calls)) (drop k (hops network columns rows map s d))
 unfolding sameAnswers lettersThenArrived
 answers-from no-more = refl
-answers-from {columns} {rows} {map} {s} {d} (letter-next {k} e h t r rest) =
-    let hs = hops columns rows map s d in
+answers-from {network} {columns} {rows} {map} {s} {d} (letter-next {k} e h t r rest) =
+    let hs = hops network columns rows map s d in
     rw (e, t, drop-cons hs k E h, letter-of hs k E h) (ap (λ ts. hopped (letter (getD hs k E)) ∷ ts) (answers-from rest))
-answers-from {columns} {rows} {map} {s} {d} (arrived-now {k} e h t r rest) =
-    let ends = drop-of-length-le (hops columns rows map s d) {i = k} (omega arith) in
+answers-from {network} {columns} {rows} {map} {s} {d} (arrived-now {k} e h t r rest) =
+    let ends = drop-of-length-le (hops network columns rows map s d) {i = k} (omega arith) in
     rw (e, t, ends) (ap (λ ts. there ∷ ts) (rw ends at (answers-from rest)))
 answers-from (refused-now e ref r rest) = rw e (answers-from rest)

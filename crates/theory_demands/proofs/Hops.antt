@@ -5,6 +5,7 @@ use Prim.Native.Nat.{ℕ, zero, suc, _≤_, _<_}
 use native.Mathlib.Omega.{arith}
 use lib.ListN.{length}
 use Rattle.mesh.specs.declared.Heading.{Heading}
+use Rattle.mesh.specs.declared.Network.{Network}
 use Rattle.mesh.specs.declared.Place.{Place}
 use Rattle.mesh.specs.Mesh.{mesh}
 use Rattle.mesh.specs.Rounds.{marked}
@@ -29,19 +30,19 @@ ends-by-rules t (suc n) p =
     (λ e h. rule-1 e)
     (λ e h. hop-on e (ends-by-rules t n (moved (hopAt t p) p) (omega arith)))
 
-module _ {columns rows : ℕ} {map : List ℕ} {s d : Place} (clear : Clear columns rows map s d) where
+module _ {network : Network} {columns rows : ℕ} {map : List ℕ} {s d : Place} (clear : Clear network columns rows map s d) where
   abbrev hs : List Heading
-  hs = hops columns rows map s d
+  hs = hops network columns rows map s d
 
   abbrev t : Trip
-  t = tripTo columns rows map d
+  t = tripTo network columns rows map d
 
   abbrev bs : List Block
   bs = blocks (marked (mesh columns rows map))
 
   pub arrives : Arrives t bs (s .row .0) (s .column .0) hs
   unfolding hopsOf
-  arrives = walk-arrives (course-of (clear .passed)) (s .row .0) (s .column .0) (served-of clear) _ (omega arith)
+  arrives = walk-arrives (course-of (clear .passed) network) (s .row .0) (s .column .0) (served-of clear) _ (omega arith)
 
   pub hops-by-rules : ByRules t (fresh s) hs
   unfolding hopsOf
@@ -49,9 +50,9 @@ module _ {columns rows : ℕ} {map : List ℕ} {s d : Place} (clear : Clear colu
 
   pub no-other-hops : (n : ℕ) → bound t bs (s .row .0) (s .column .0) < n → walk n t (fresh s) ≡ hs
   unfolding hopsOf
-  no-other-hops n h = same-walk (course-of (clear .passed)) (s .row .0) (s .column .0) (served-of clear) n _ h (omega arith)
+  no-other-hops n h = same-walk (course-of (clear .passed) network) (s .row .0) (s .column .0) (served-of clear) n _ h (omega arith)
 
   -- after k of them
   pub way : (k : ℕ) → k ≤ length hs → OnTheWay t hs k (reached k t (fresh s))
   unfolding hopsOf
-  way k h = on-the-way (course-of (clear .passed)) (s .row .0) (s .column .0) (served-of clear) _ (omega arith) k h
+  way k h = on-the-way (course-of (clear .passed) network) (s .row .0) (s .column .0) (served-of clear) _ (omega arith) k h

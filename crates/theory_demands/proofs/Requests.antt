@@ -3,6 +3,7 @@ use mathlib.Core.Path.{_≡_, sym, _∙_}
 use mathlib.Core.Bool.{false}
 use mathlib.Core.List.{List, _++_}
 use Prim.Native.Nat.{ℕ}
+use Rattle.mesh.specs.declared.Network.{Network}
 use Rattle.mesh.specs.declared.Place.{Place}
 use Rattle.mesh.specs.Mesh.{Mesh, mesh}
 use Rattle.mesh.specs.Tests.{Test, first}
@@ -26,9 +27,9 @@ pub record Passed (columns rows : ℕ) (map : List ℕ) (s d : Place) : Type 0 w
   pub row-clear : blockNearInRow (marked (mesh columns rows map)) d ≡ false
 
 -- and one that 9 lets pass too
-pub record Clear (columns rows : ℕ) (map : List ℕ) (s d : Place) : Type 0 where
+pub record Clear (network : Network) (columns rows : ℕ) (map : List ℕ) (s d : Place) : Type 0 where
   pub passed : Passed columns rows map s d
-  pub none : first (requestTests (marked (mesh columns rows map)) s d) ≡ 0
+  pub none : first (requestTests network (marked (mesh columns rows map)) s d) ≡ 0
 
 module _ (columns rows : ℕ) (map : List ℕ) (s d : Place) where
   abbrev w : Mesh
@@ -47,21 +48,21 @@ module _ (columns rows : ℕ) (map : List ℕ) (s d : Place) where
       let (_, (_, (row-clear, _))) = first-none (tripTests w s d) (trip-numbered w s d) none in
       record { map-passes = clear; placed = placed w s d (clear-before (placeTests w s d) _ none); row-clear = row-clear }
 
-  pub passed-9 : requestRefusal columns rows map s d ≡ 0 → Clear columns rows map s d
+  pub passed-9 : {network : Network} → requestRefusal network columns rows map s d ≡ 0 → Clear network columns rows map s d
   unfolding requestRefusal
-  passed-9 h =
-      let (clear, none) = map-passes (requestTests w s d) h in
+  passed-9 {network} h =
+      let (clear, none) = map-passes (requestTests network w s d) h in
       let q = request w s d none in
       record { passed = record { map-passes = clear; placed = q .placed; row-clear = q .row-clear }; none = none }
 
 module _ {columns rows : ℕ} {map : List ℕ} {s d : Place} (p : Passed columns rows map s d) where
-  pub course-of : Course (tripTo columns rows map d) (blocks (marked (mesh columns rows map)))
-  course-of =
-      destination-course (marked (mesh columns rows map)) s d (obstacles (accepted (p .map-passes))) (p .placed) (p .row-clear)
+  pub course-of : (network : Network) → Course (tripTo network columns rows map d) (blocks (marked (mesh columns rows map)))
+  course-of network =
+      destination-course network (marked (mesh columns rows map)) s d (obstacles (accepted (p .map-passes))) (p .placed) (p .row-clear)
 
-  pub free-source : FreePlace (tripTo columns rows map d) (s .row .0) (s .column .0)
+  pub free-source : (network : Network) → FreePlace (tripTo network columns rows map d) (s .row .0) (s .column .0)
   unfolding inBlock
-  free-source =
+  free-source network =
       let w = marked (mesh columns rows map) in
       record { row = on-row w s (p .placed .source-on); column = on-column w s (p .placed .source-on); free = p .placed .source-free }
 
@@ -72,8 +73,8 @@ module _ {columns rows : ℕ} {map : List ℕ} {s d : Place} (p : Passed columns
       clear-next (mapTests columns rows map) _ (map-numbered columns rows map) (p .map-passes) ∙
       rw (p .placed .source-on, p .placed .destination-on, p .placed .source-free, p .placed .destination-free)
 
-pub served-of : {columns rows : ℕ} {map : List ℕ} {s d : Place} → Clear columns rows map s d →
-    Served (tripTo columns rows map d) (s .row .0) (s .column .0)
-served-of {columns} {rows} {map} {s} {d} clear =
+pub served-of : {network : Network} {columns rows : ℕ} {map : List ℕ} {s d : Place} → Clear network columns rows map s d →
+    Served (tripTo network columns rows map d) (s .row .0) (s .column .0)
+served-of {network} {columns} {rows} {map} {s} {d} clear =
     let w = marked (mesh columns rows map) in
-    source-served w s d (request w s d (clear .none))
+    source-served network w s d (request w s d (clear .none))

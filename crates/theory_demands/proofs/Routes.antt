@@ -9,6 +9,7 @@ use borrow.Author.Tests.{lt-ltb, le-ltb}
 use lib.Dec.{ltb}
 use lib.ListN.{length, drop}
 use Rattle.mesh.specs.declared.Heading.{Heading}
+use Rattle.mesh.specs.declared.Network.{Network}
 use Rattle.mesh.specs.declared.Place.{Place}
 use Rattle.mesh.specs.declared.Routed.{Routed}
 use Rattle.mesh.specs.Mesh.{mesh}
@@ -30,23 +31,23 @@ returned-refused {ℓ} : {A : Type ℓ} {n k : ℕ} → returned n ≡ Answer.re
 returned-refused e = let z : _≡_ {A = ℕ} 0 1 = cc in absurd (omega arith)
 
 -- None applies: 10 does exactly if there is room for fewer.
-module _ {columns rows : ℕ} {map : List ℕ} {s d : Place} (clear : Clear columns rows map s d) (out : List ℕ) where
+module _ {network : Network} {columns rows : ℕ} {map : List ℕ} {s d : Place} (clear : Clear network columns rows map s d) (out : List ℕ) where
   abbrev hs : List Heading
-  hs = hops columns rows map s d
+  hs = hops network columns rows map s d
 
-  only-room : routeRefusal columns rows map s d out ≡ cond (ltb (length out) (length hs)) 10 0
+  only-room : routeRefusal network columns rows map s d out ≡ cond (ltb (length out) (length hs)) 10 0
   unfolding routeRefusal sendTests first
   only-room =
       clear-next (mapTests columns rows map) _ (map-numbered columns rows map) (clear .passed .map-passes) ∙
-      clear-next (requestTests (marked (mesh columns rows map)) s d) _ (request-numbered _ s d) (clear .none)
+      clear-next (requestTests network (marked (mesh columns rows map)) s d) _ (request-numbered _ s d network) (clear .none)
 
-  pub short-ten : length out < length hs → routeRefusal columns rows map s d out ≡ 10
+  pub short-ten : length out < length hs → routeRefusal network columns rows map s d out ≡ 10
   short-ten h = only-room ∙ rw (lt-ltb _ _ h)
 
-  pub room-none : length hs ≤ length out → routeRefusal columns rows map s d out ≡ 0
+  pub room-none : length hs ≤ length out → routeRefusal network columns rows map s d out ≡ 0
   room-none h = only-room ∙ rw (le-ltb _ _ h)
 
-  module _ {r : Routed} {after : List ℕ} (does : Routes columns rows map s d out r after) where
+  module _ {r : Routed} {after : List ℕ} (does : Routes network columns rows map s d out r after) where
     answers-ten : length out < length hs → routedAnswer r ≡ Answer.refused 10
     unfolding answer
     answers-ten h = does .answers ∙ rw (short-ten h)
@@ -67,7 +68,7 @@ module _ {columns rows : ℕ} {map : List ℕ} {s d : Place} (clear : Clear colu
     ten-short (yes h) e = returned-refused (sym (answers-number h) ∙ e)
     ten-short (no h) e = omega arith
 
-    pub route-given : RouteGiven columns rows map s d out r after
+    pub route-given : RouteGiven network columns rows map s d out r after
     route-given = record {
       ten = (ten-short (decLe _ _), answers-ten);
       unchanged = leaves-output;
@@ -77,21 +78,21 @@ module _ {columns rows : ℕ} {map : List ℕ} {s d : Place} (clear : Clear colu
 
 -- One applies: it stands before 10.
 
-module _ (columns rows : ℕ) (map : List ℕ) (s d : Place) (out : List ℕ) {k : ℕ} (e : requestRefusal columns rows map s d ≡ suc k) where
-  pub refused-before : routeRefusal columns rows map s d out ≡ suc k
+module _ (network : Network) (columns rows : ℕ) (map : List ℕ) (s d : Place) (out : List ℕ) {k : ℕ} (e : requestRefusal network columns rows map s d ≡ suc k) where
+  pub refused-before : routeRefusal network columns rows map s d out ≡ suc k
   unfolding requestRefusal routeRefusal sendTests
-  refused-before = rw (← append-assoc) (first-some k (mapTests columns rows map ++ requestTests (marked (mesh columns rows map)) s d) _ e)
+  refused-before = rw (← append-assoc) (first-some k (mapTests columns rows map ++ requestTests network (marked (mesh columns rows map)) s d) _ e)
 
-  pub refused-given : {r : Routed} {after : List ℕ} → Routes columns rows map s d out r after →
+  pub refused-given : {r : Routed} {after : List ℕ} → Routes network columns rows map s d out r after →
       (routedAnswer r ≡ Answer.refused (suc k)) × (after ≡ out)
   unfolding answer written
   refused-given does = (does .answers ∙ rw refused-before, does .writes ∙ rw refused-before)
 
 -- so a request that Route serves with some output is one that none applies to
-pub served-clear : (columns rows : ℕ) (map : List ℕ) (s d : Place) (out : List ℕ) → routeRefusal columns rows map s d out ≡ 0 →
-    requestRefusal columns rows map s d ≡ 0
-served-clear columns rows map s d out h = by (requestRefusal columns rows map s d) refl
+pub served-clear : (network : Network) (columns rows : ℕ) (map : List ℕ) (s d : Place) (out : List ℕ) → routeRefusal network columns rows map s d out ≡ 0 →
+    requestRefusal network columns rows map s d ≡ 0
+served-clear network columns rows map s d out h = by (requestRefusal network columns rows map s d) refl
   where
-    by : (k : ℕ) → requestRefusal columns rows map s d ≡ k → k ≡ 0
+    by : (k : ℕ) → requestRefusal network columns rows map s d ≡ k → k ≡ 0
     by zero e = refl
-    by (suc k) e = let f = refused-before columns rows map s d out e in absurd (omega arith)
+    by (suc k) e = let f = refused-before network columns rows map s d out e in absurd (omega arith)

@@ -10,6 +10,7 @@ use lib.ListN.{length, take}
 use lib.Seq.{take-nil}
 use Rattle.mesh.specs.declared.Heading.{Heading}
 use Rattle.mesh.specs.declared.Letter.the-variants.{Hop}
+use Rattle.mesh.specs.declared.Network.{Network}
 use Rattle.mesh.specs.declared.Place.{Place}
 use Rattle.mesh.specs.Mesh.{mesh}
 use Rattle.mesh.specs.Headings.{letter, letters, named}
@@ -176,12 +177,12 @@ module _ (t : Trip) where
       told-later p i (f .hops) xs (j - i) k (f .spelled) (f .hops-lawful) (f .wrong) ∙ rw s
 
 -- The operation: refusals 1 to 7 first.
-module _ (columns rows : ℕ) (map : List ℕ) (s d : Place) (xs : List ℕ) where
-  pub clear-judged : refusalOf columns rows map s d ≡ 0 → judgement columns rows map s d xs ≡ judge (tripTo columns rows map d) (fresh s) 0 xs
+module _ (network : Network) (columns rows : ℕ) (map : List ℕ) (s d : Place) (xs : List ℕ) where
+  pub clear-judged : refusalOf columns rows map s d ≡ 0 → judgement network columns rows map s d xs ≡ judge (tripTo network columns rows map d) (fresh s) 0 xs
   unfolding judgement judgeFrom unless
   clear-judged e = rw e
 
-  pub refused-judged : {k : ℕ} → refusalOf columns rows map s d ≡ suc k → judgement columns rows map s d xs ≡ failed (suc k) 0
+  pub refused-judged : {k : ℕ} → refusalOf columns rows map s d ≡ suc k → judgement network columns rows map s d xs ≡ failed (suc k) 0
   unfolding judgement unless
   refused-judged e = rw e
 
@@ -191,18 +192,18 @@ module _ (columns rows : ℕ) (map : List ℕ) (s d : Place) (xs : List ℕ) whe
   refusal-most = first-most 7 (mapTests columns rows map ++ placeTests (marked (mesh columns rows map)) s d) refl
 
   -- so where a hand-in is passed, or fails with another number, none applies
-  clear-else : {v : Verdict} → judgement columns rows map s d xs ≡ v → ((k : ℕ) → k ≤ 7 → failed k 0 ≢ v) → refusalOf columns rows map s d ≡ 0
+  clear-else : {v : Verdict} → judgement network columns rows map s d xs ≡ v → ((k : ℕ) → k ≤ 7 → failed k 0 ≢ v) → refusalOf columns rows map s d ≡ 0
   clear-else {v} e other = go (refusalOf columns rows map s d) refl
     where
       go : (k : ℕ) → refusalOf columns rows map s d ≡ k → refusalOf columns rows map s d ≡ 0
       go zero f = f
       go (suc k) f = absurd (other (suc k) (omega (arith, refusal-most)) (sym (refused-judged f) ∙ e))
 
-  pub passed-clear : {n : ℕ} → judgement columns rows map s d xs ≡ passed n → refusalOf columns rows map s d ≡ 0
+  pub passed-clear : {n : ℕ} → judgement network columns rows map s d xs ≡ passed n → refusalOf columns rows map s d ≡ 0
   passed-clear e = clear-else e (λ k m f. passed-failed (sym f))
 
   pub failed-judged : {k j : ℕ} → 7 < k →
-      judgement columns rows map s d xs ≡ failed k j ↔ ((refusalOf columns rows map s d ≡ 0) × FailedAt (tripTo columns rows map d) (fresh s) 0 xs k j)
+      judgement network columns rows map s d xs ≡ failed k j ↔ ((refusalOf columns rows map s d ≡ 0) × FailedAt (tripTo network columns rows map d) (fresh s) 0 xs k j)
   failed-judged {k} {j} l = (
     λ e. let clear = clear-else e other in (clear, failed-told _ _ 0 xs (sym (clear-judged clear) ∙ e)),
     λ (clear, f). clear-judged clear ∙ told-failed _ _ 0 xs f,

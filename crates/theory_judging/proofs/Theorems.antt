@@ -12,6 +12,7 @@ use Rattle.mesh.specs.declared.Broken.the-variants.{Neither, Rule1, Rule2}
 use Rattle.mesh.specs.declared.Heading.{Heading}
 use Rattle.mesh.specs.declared.Last.{Last}
 use Rattle.mesh.specs.declared.Letter.the-variants.{Hop}
+use Rattle.mesh.specs.declared.Network.{Network}
 use Rattle.mesh.specs.declared.Place.{Place}
 use Rattle.mesh.specs.Headings.{letter, letters, named}
 use Rattle.mesh.specs.Turns.{hopBreaks, turnsBack}
@@ -51,7 +52,7 @@ module _ (west : ℕ → Bool) (c : ℕ) (l : Last) (h : Heading) where
   pub reversal-breaks-none : turnsBack l h ≡ true → hopBreaks west c l h ≡ Neither
   reversal-breaks-none = reversal-keeps west c l h
 
--- Of any mesh with its bad nodes, either parity, and any packet p on it.
+-- Of any mesh with its bad nodes, either network, and any packet p on it.
 module _ (t : Trip) (p : At) where
   -- a letter has no mistake exactly if its hop is lawful
   pub letter-lawful : (h : Heading) → letterMistake t p (Hop h) ≡ 0 ↔ lawful t p h ≡ true
@@ -79,48 +80,48 @@ module _ (t : Trip) (p : At) where
   pub route-is-passed : (hs : List Heading) → lawfulRoute t p hs ≡ true → judge t p 0 (letters hs) ≡ passed (length hs)
   route-is-passed hs e = route-passed t p 0 hs e ∙ rw zero-add
 
--- Of the operation.
-module _ (columns rows : ℕ) (map : List ℕ) (s d : Place) where
+-- Of the operation, on either network.
+module _ (network : Network) (columns rows : ℕ) (map : List ℕ) (s d : Place) where
   -- the first of refusals 1 to 7 that applies is the answer, with index 0
-  pub refused-is-told : (xs : List ℕ) (k : ℕ) → refusalOf columns rows map s d ≡ suc k → judgement columns rows map s d xs ≡ failed (suc k) 0
-  refused-is-told xs k = refused-judged columns rows map s d xs
+  pub refused-is-told : (xs : List ℕ) (k : ℕ) → refusalOf columns rows map s d ≡ suc k → judgement network columns rows map s d xs ≡ failed (suc k) 0
+  refused-is-told xs k = refused-judged network columns rows map s d xs
 
   -- where a hand-in is passed, none applies
-  pub passed-is-clear : (xs : List ℕ) (n : ℕ) → judgement columns rows map s d xs ≡ passed n → refusalOf columns rows map s d ≡ 0
-  passed-is-clear xs n = passed-clear columns rows map s d xs
+  pub passed-is-clear : (xs : List ℕ) (n : ℕ) → judgement network columns rows map s d xs ≡ passed n → refusalOf columns rows map s d ≡ 0
+  passed-is-clear xs n = passed-clear network columns rows map s d xs
 
   -- Where none applies:
   module _ (clear : refusalOf columns rows map s d ≡ 0) where
     -- passed exactly if the hand-in spells a lawful route from source to destination on the marked mesh, with its length
     pub judgement-is-lawful : (xs : List ℕ) (n : ℕ) →
-        judgement columns rows map s d xs ≡ passed n ↔ (LawfulHandIn (tripTo columns rows map d) (fresh s) xs × (n ≡ length xs))
+        judgement network columns rows map s d xs ≡ passed n ↔ (LawfulHandIn (tripTo network columns rows map d) (fresh s) xs × (n ≡ length xs))
     judgement-is-lawful xs n =
-        rw (clear-judged columns rows map s d xs clear, ← zero-add (length xs))
-        (passed-is-lawful (tripTo columns rows map d) (fresh s) 0 n xs)
+        rw (clear-judged network columns rows map s d xs clear, ← zero-add (length xs))
+        (passed-is-lawful (tripTo network columns rows map d) (fresh s) 0 n xs)
 
     -- else failed, at the first letter that is no lawful hop, or at the end
     pub judgement-failed-at : (xs : List ℕ) (k j : ℕ) →
-        judgement columns rows map s d xs ≡ failed k j ↔ FailedAt (tripTo columns rows map d) (fresh s) 0 xs k j
+        judgement network columns rows map s d xs ≡ failed k j ↔ FailedAt (tripTo network columns rows map d) (fresh s) 0 xs k j
     judgement-failed-at xs k j =
-        rw (clear-judged columns rows map s d xs clear) (failed-at (tripTo columns rows map d) (fresh s) 0 xs k j)
+        rw (clear-judged network columns rows map s d xs clear) (failed-at (tripTo network columns rows map d) (fresh s) 0 xs k j)
 
     -- every lawful route is passed, with its number of hops
-    pub judgement-of-route : (hs : List Heading) → lawfulRoute (tripTo columns rows map d) (fresh s) hs ≡ true →
-        judgement columns rows map s d (letters hs) ≡ passed (length hs)
+    pub judgement-of-route : (hs : List Heading) → lawfulRoute (tripTo network columns rows map d) (fresh s) hs ≡ true →
+        judgement network columns rows map s d (letters hs) ≡ passed (length hs)
     judgement-of-route hs e =
-        clear-judged columns rows map s d (letters hs) clear ∙ route-is-passed (tripTo columns rows map d) (fresh s) hs e
+        clear-judged network columns rows map s d (letters hs) clear ∙ route-is-passed (tripTo network columns rows map d) (fresh s) hs e
 
   -- A hand-in fails with 14 at index j exactly if no refusal applies, the letters before j are lawful, and letter j makes an EN or NW turn where
   -- that is forbidden, without leaving the mesh (which is told first, by 12);
   pub judgement-with-14 : (xs : List ℕ) (j : ℕ) →
-      judgement columns rows map s d xs ≡ failed 14 j ↔ ((refusalOf columns rows map s d ≡ 0) × BrokeRuleAt (tripTo columns rows map d) (fresh s) 0 xs Rule1 j)
+      judgement network columns rows map s d xs ≡ failed 14 j ↔ ((refusalOf columns rows map s d ≡ 0) × BrokeRuleAt (tripTo network columns rows map d) (fresh s) 0 xs Rule1 j)
   judgement-with-14 xs j =
-      Iff·trans (failed-judged columns rows map s d xs (omega arith))
-      (Iff·and Iff·rfl (failed-is-rule (tripTo columns rows map d) (fresh s) 0 xs j Rule1 (omega arith)))
+      Iff·trans (failed-judged network columns rows map s d xs (omega arith))
+      (Iff·and Iff·rfl (failed-is-rule (tripTo network columns rows map d) (fresh s) 0 xs j Rule1 (omega arith)))
 
   -- with 17 exactly if an ES or SW turn.
   pub judgement-with-17 : (xs : List ℕ) (j : ℕ) →
-      judgement columns rows map s d xs ≡ failed 17 j ↔ ((refusalOf columns rows map s d ≡ 0) × BrokeRuleAt (tripTo columns rows map d) (fresh s) 0 xs Rule2 j)
+      judgement network columns rows map s d xs ≡ failed 17 j ↔ ((refusalOf columns rows map s d ≡ 0) × BrokeRuleAt (tripTo network columns rows map d) (fresh s) 0 xs Rule2 j)
   judgement-with-17 xs j =
-      Iff·trans (failed-judged columns rows map s d xs (omega arith))
-      (Iff·and Iff·rfl (failed-is-rule (tripTo columns rows map d) (fresh s) 0 xs j Rule2 (omega arith)))
+      Iff·trans (failed-judged network columns rows map s d xs (omega arith))
+      (Iff·and Iff·rfl (failed-is-rule (tripTo network columns rows map d) (fresh s) 0 xs j Rule2 (omega arith)))

@@ -11,6 +11,7 @@ use Rattle.mesh.specs.declared.Heading.the-variants.{East as E, North as N, Sou
 use Rattle.mesh.specs.declared.Last.{Last}
 use Rattle.mesh.specs.declared.Last.the-variants.{Made as made}
 use Rattle.mesh.specs.declared.Letter.the-variants.{Hop, Other}
+use Rattle.mesh.specs.declared.Network.{Network}
 use Rattle.mesh.specs.declared.Place.{Place}
 use Rattle.mesh.specs.Mesh.{mesh}
 use Rattle.mesh.specs.Headings.{letters, named}
@@ -85,6 +86,6 @@ BrokeRuleAt t p i xs r j = LawfulUpTo t p i xs j (λ q n. LetterBreaks t q xs n 
 abbrev pub refusalOf : ℕ → ℕ → List ℕ → Place → Place → ℕ
 refusalOf columns rows map s d = first (mapTests columns rows map ++ placeTests (marked (mesh columns rows map)) s d)
 
--- and the marked mesh with the destination.
-abbrev pub tripTo : ℕ → ℕ → List ℕ → Place → Trip
-tripTo columns rows map d = tripOn (marked (mesh columns rows map)) d
+-- and the marked mesh with the destination, and the network's turns.
+abbrev pub tripTo : Network → ℕ → ℕ → List ℕ → Place → Trip
+tripTo network columns rows map d = tripOn network (marked (mesh columns rows map)) d

@@ -7,6 +7,7 @@ use native.Mathlib.Omega.{arith}
 use lib.ListN.{length, take, drop}
 use Rattle.mesh.specs.declared.Heading.{Heading}
 use Rattle.mesh.specs.declared.Last.the-variants.{None as none}
+use Rattle.mesh.specs.declared.Network.{Network}
 use Rattle.mesh.specs.declared.Place.{Place}
 use Rattle.mesh.specs.Headings.{letters, code, direction}
 use Rattle.mesh.specs.Tests.{Test}
@@ -94,10 +95,10 @@ pub short-routes : (hs : List Heading) → length hs ≤ 16384 → RouteAccepted
 short-routes = short-accepted
 
 -- and so is each that Route hands out
-pub routes-have-files : (columns rows : ℕ) (map : List ℕ) (s d : Place) → requestRefusal columns rows map s d ≡ 0 →
-    RouteAccepted (letters (demand3.hops columns rows map s d))
-routes-have-files columns rows map s d served =
-    short-accepted (demand3.hops columns rows map s d) (omega (arith, routes-are-short columns rows map s d served))
+pub routes-have-files : (network : Network) (columns rows : ℕ) (map : List ℕ) (s d : Place) → requestRefusal network columns rows map s d ≡ 0 →
+    RouteAccepted (letters (demand3.hops network columns rows map s d))
+routes-have-files network columns rows map s d served =
+    short-accepted (demand3.hops network columns rows map s d) (omega (arith, routes-are-short network columns rows map s d served))
 
 -- three bytes more than the route has letters are always room for its file
 pub file-room : (xs : List ℕ) → RouteAccepted xs → length (fileOf xs) ≤ length xs + 3

@@ -8,12 +8,12 @@ use Rattle.mesh.specs.Nodes.{ahead}
 use Rattle.mesh.specs.Blocks.{Block, reaches}
 use Rattle.mesh.specs.Rules.{Trip, blocked}
 use Rattle.mesh.specs.Hops.{fresh}
-use Rattle.mesh.specs.Walk.{walk, shutIn, distance, detours, bound}
+use Rattle.mesh.specs.Walk.{walk, shutIn, meetsEdge, distance, detours, bound}
 use Rattle.mesh.specs.Mesh.{place}
 use Rattle.theory_blocks.specs.Blocks.{Fits}
 use Rattle.theory_blocks.specs.Obstacles.{Listed, Walled, none, more, Obstacles}
 use Rattle.theory_blocks.proofs.Rings.{reaches-told, reaches-true, reaches-false}
-use Rattle.theory_walk.specs.Course.{Course, meetsEdge}
+use Rattle.theory_walk.specs.Course.{Course}
 use Rattle.theory_walk.specs.Claims.{Arrives}
 use Rattle.theory_walk.proofs.Theorems.{walk-arrives}
 
@@ -60,6 +60,6 @@ module _ (west : ℕ → Bool) (changes : (c : ℕ) → west (c + 1) ≡ not (we
   unfolding past square bound distance detours shutIn meetsEdge reaches blocked ahead
   example =
       walk-arrives course 1 5
-      (record { place = record { row = omega arith; column = omega arith; free = refl }; not-shut = and-false (not (west 5)); off-edge = refl })
+      (record { place = record { row = omega arith; column = omega arith; free = refl }; not-shut = and-false (not (west 5)); off-edge = and-false (not (west 5)) })
       1000
       (omega arith)

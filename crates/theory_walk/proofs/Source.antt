@@ -13,9 +13,9 @@ use Rattle.mesh.specs.declared.Last.the-variants.{None as none}
 use Rattle.mesh.specs.Nodes.{ahead}
 use Rattle.mesh.specs.Blocks.{Block}
 use Rattle.mesh.specs.Rules.{Trip, blocked, own, again}
-use Rattle.mesh.specs.Walk.{shutIn, distance, bound}
+use Rattle.mesh.specs.Walk.{shutIn, meetsEdge, distance, bound}
 use Rattle.mesh.proofs.Bools.{true-false, and-right}
-use Rattle.theory_walk.specs.Course.{meetsEdge, Served}
+use Rattle.theory_walk.specs.Course.{Served}
 use Rattle.theory_walk.proofs.Bools.{le-by-contradiction}
 use Rattle.theory_walk.proofs.Coordinates.{up, to-west, Sight, left, Off, To, east, west, notOwn, gaps, off-by}
 use Rattle.theory_walk.proofs.Rules.{first}

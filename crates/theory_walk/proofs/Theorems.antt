@@ -1,34 +1,35 @@
--- The walk theorem and what goes with it: the walk by the hop rules arrives, lawfully and within the bound, unless the source is shut in. Assumes nothing.
+-- The walk theorem and what goes with it: the walk by the hop rules arrives, lawfully and within the bound, unless the source is shut in or meets
+-- the edge. It is shown for columns of two kinds that alternate, whichever of them permits which turns; each network is an instance. Assumes nothing.
 use mathlib.Core.Path.{_≡_, refl}
-use mathlib.Core.Bool.{true, false, not, _&&_}
+use mathlib.Core.Bool.{true, false, not, _||_}
 use mathlib.Core.Logic.{_↔_, _⊎_, inl, inr}
 use mathlib.Core.List.{List}
 use Prim.Native.Nat.{ℕ, suc, _≤_, _<_}
 use native.Mathlib.Decide.{ℕ-discrete}
 use native.Mathlib.Omega.{arith}
-use borrow.Author.Tests.{eqb-true, eqb-false, ne-eqb, ltb-true, not-true, not-false}
+use borrow.Author.Tests.{eqb-true, eqb-false, ltb-true, not-true, not-false}
 use lib.Dec.{eqb, ltb}
 use lib.ListN.{length}
 use Rattle.mesh.specs.declared.Heading.the-variants.{West as W}
+use Rattle.mesh.specs.declared.Network.{Network}
 use Rattle.mesh.specs.declared.Place.{Place}
 use Rattle.mesh.specs.Mesh.{Mesh, mesh, onMesh, place}
-use Rattle.mesh.specs.Parity.{turnsWest}
 use Rattle.mesh.specs.Nodes.{bad}
 use Rattle.mesh.specs.Rounds.{marked}
 use Rattle.mesh.specs.Blocks.{Block, blocks}
 use Rattle.mesh.specs.Rules.{Trip, blocked, tripOn}
 use Rattle.mesh.specs.Hops.{fresh}
-use Rattle.mesh.specs.Walk.{walk, shutIn, bound}
+use Rattle.mesh.specs.Walk.{walk, shutIn, meetsEdge, bound}
 use Rattle.mesh.specs.Requests.{offMesh, inBlock, blockNearInRow, unserved}
 use Rattle.mesh.specs.Routing.{hopsOf}
-use Rattle.mesh.proofs.Bools.{value, and-both, or-cases}
+use Rattle.mesh.proofs.Bools.{value, and-both, or-cases, or-none}
 use Rattle.mesh.proofs.Requests.{on-row, on-column, Placed, Request}
 use Rattle.mesh.proofs.Maps.{Accepted}
 use Rattle.mesh.proofs.Parity.{turns-change}
 use Rattle.theory_blocks.specs.Obstacles.{ObstaclesOf}
 use Rattle.theory_blocks.proofs.Near.{row-is-clear}
 use Rattle.theory_blocks.proofs.Theorems.{obstacles}
-use Rattle.theory_walk.specs.Course.{Course, FreePlace, meetsEdge, Served}
+use Rattle.theory_walk.specs.Course.{Course, FreePlace, Served}
 use Rattle.theory_walk.specs.Claims.{Arrives, mostHops, Fails, reached, OnTheWay}
 use Rattle.theory_walk.proofs.Walks.{walks-agree, fails-unlawful, on-the-way-from}
 use Rattle.theory_walk.proofs.Source.{start}
@@ -63,86 +64,79 @@ module _ {t : Trip} {bs : List Block} (course : Course t bs) (r c : ℕ) where
       let g = and-both {a = blocked t W 1 r c} (f .1) in
       shut-by course (ℕ-discrete r (t .R)) free (not-true _ (f .0)) (g .0) (or-cases _ _ (g .1))
 
-  -- refusal 9 comes to one condition: some hop by the rules is unlawful exactly if the source is shut in
-  pub refusal-9 : FreePlace t r c → meetsEdge t r c ≡ false → (shutIn t r c ≡ true) ↔ Fails t (fresh (place r c))
-  refusal-9 free off-edge = (shut-in-fails (free .free), λ f. known f (value (shutIn t r c)))
-    where
-      known : Fails t (fresh (place r c)) → (shutIn t r c ≡ true) ⊎ (shutIn t r c ≡ false) → shutIn t r c ≡ true
-      known f (inl e) = e
-      known f (inr e) =
-          let src : Served t r c = record { place = free; not-shut = e; off-edge = off-edge } in
-          absurd (fails-unlawful t (suc (bound t bs r c)) f (walk-arrives src _ (omega arith) .route))
-
-module _ (t : Trip) (r c : ℕ) where
-  -- from a source that meets the west edge some hop by the rules is unlawful too
+  -- from one that meets the west edge too
   pub meets-edge-fails : meetsEdge t r c ≡ true → Fails t (fresh (place r c))
   unfolding meetsEdge
   meets-edge-fails e =
-      let f = and-both {a = eqb c 0} e in
-      let g = and-both {a = not (t .west c)} (f .1) in
-      west-fails t r c (eqb-false r (t .R) (not-true _ (g .1))) (not-true _ (g .0)) (edge-barred t r c (eqb-true c 0 (f .0)))
+      let f = and-both {a = not (t .west c)} e in
+      let g = and-both {a = eqb c 0} (f .1) in
+      west-fails t r c (eqb-false r (t .R) (not-true _ (g .1))) (not-true _ (f .0)) (edge-barred t r c (eqb-true c 0 (g .0)))
 
-  -- none meets it where column 0 permits NW and SW
-  pub meets-no-edge : t .west 0 ≡ true → meetsEdge t r c ≡ false
-  unfolding meetsEdge
-  meets-no-edge e = known (ℕ-discrete c 0)
+  -- refusal 9 comes to one condition: some hop by the rules is unlawful exactly if the source is shut in or meets the edge
+  pub refusal-9 : FreePlace t r c → (shutIn t r c || meetsEdge t r c ≡ true) ↔ Fails t (fresh (place r c))
+  refusal-9 free = (λ e. fails (or-cases (shutIn t r c) _ e), λ f. known f (value (shutIn t r c || meetsEdge t r c)))
     where
-      known : Dec (c ≡ 0) → eqb c 0 && (not (t .west c) && not (eqb r (t .R))) ≡ false
-      known (yes z) = rw (z, e)
-      known (no nz) = rw (ne-eqb c 0 nz)
+      fails : (shutIn t r c ≡ true) ⊎ (meetsEdge t r c ≡ true) → Fails t (fresh (place r c))
+      fails (inl e) = shut-in-fails (free .free) e
+      fails (inr e) = meets-edge-fails e
 
--- with the turns of document 01, on a marked mesh
-module _ (w : Mesh) where
-  -- no source meets the west edge
-  pub turns-west-no-edge : (d : Place) (r c : ℕ) → meetsEdge (tripOn w d) r c ≡ false
-  turns-west-no-edge d r c = meets-no-edge (tripOn w d) r c (unfold turnsWest in refl)
+      known : Fails t (fresh (place r c)) → (shutIn t r c || meetsEdge t r c ≡ true) ⊎ (shutIn t r c || meetsEdge t r c ≡ false) →
+          shutIn t r c || meetsEdge t r c ≡ true
+      known f (inl e) = e
+      known f (inr e) =
+          let (free-west, off) = or-none (shutIn t r c) (meetsEdge t r c) e in
+          let src : Served t r c = record { place = free; not-shut = free-west; off-edge = off } in
+          absurd (fails-unlawful t (suc (bound t bs r c)) f (walk-arrives src _ (omega arith) .route))
 
+-- on a marked mesh, with the turns of a network
+module _ (n : Network) (w : Mesh) where
   on-mesh : (r c : ℕ) → onMesh w r c ≡ true → (r < w .rows) × (c < w .columns)
   unfolding onMesh
   on-mesh r c e = let f = and-both {a = ltb r (w .rows)} e in (ltb-true _ _ (f .0), ltb-true _ _ (f .1))
 
   module _ (s d : Place) where
     -- a destination that refusals 6, 7 and 8 let pass gives a course
-    pub destination-course : ObstaclesOf w → Placed w s d → blockNearInRow w d ≡ false → Course (tripOn w d) (blocks w)
+    pub destination-course : ObstaclesOf w → Placed w s d → blockNearInRow w d ≡ false → Course (tripOn n w d) (blocks w)
     unfolding offMesh inBlock blockNearInRow
     destination-course o p far =
         let (row, column) = on-mesh (d .row .0) (d .column .0) (not-false _ (p .destination-on)) in
         record {
           obstacles = o;
-          changes = turns-change;
+          changes = turns-change n;
           row = row;
           column = column;
           clear = row-is-clear o (d .row .0) (d .column .0) (p .destination-free) far;
         }
 
     -- a source that refusals 6, 7 and 9 let pass
-    pub source-served : Request w s d → Served (tripOn w d) (s .row .0) (s .column .0)
+    pub source-served : Request n w s d → Served (tripOn n w d) (s .row .0) (s .column .0)
     unfolding inBlock unserved
     source-served q =
         let p = q .placed in
+        let (free-west, off) = or-none (shutIn (tripOn n w d) (s .row .0) (s .column .0)) _ (q .served) in
         record {
           place = record { row = on-row w s (p .source-on); column = on-column w s (p .source-on); free = p .source-free };
-          not-shut = q .served;
-          off-edge = turns-west-no-edge _ _ _;
+          not-shut = free-west;
+          off-edge = off;
         }
 
     -- the hops of a request that refusals 6 to 9 let pass are a lawful route within the bound
-    pub request-arrives : ObstaclesOf w → Request w s d →
-        Arrives (tripOn w d) (blocks w) (s .row .0) (s .column .0) (hopsOf w s d)
+    pub request-arrives : ObstaclesOf w → Request n w s d →
+        Arrives (tripOn n w d) (blocks w) (s .row .0) (s .column .0) (hopsOf n w s d)
     unfolding hopsOf
     request-arrives o q =
         walk-arrives (destination-course o (q .placed) (q .row-clear)) _ _ (source-served q) _ (omega arith)
 
     -- their bound on a mesh of at most 64 columns and rows
-    pub request-bound : w .columns ≤ 64 → w .rows ≤ 64 → ObstaclesOf w → Request w s d →
-        bound (tripOn w d) (blocks w) (s .row .0) (s .column .0) ≤ mostHops
+    pub request-bound : w .columns ≤ 64 → w .rows ≤ 64 → ObstaclesOf w → Request n w s d →
+        bound (tripOn n w d) (blocks w) (s .row .0) (s .column .0) ≤ mostHops
     request-bound few-columns few-rows o q =
         bound-few (destination-course o (q .placed) (q .row-clear)) (source-served q .place) few-columns few-rows
 
--- no route has more hops: of every map that refusals 1 to 5 let pass, and every request that refusals 6 to 9 let pass
-pub routes-are-short : {columns rows : ℕ} {map : List ℕ} → Accepted columns rows map → (s d : Place) → Request (marked (mesh columns rows map)) s d →
-    length (hopsOf (marked (mesh columns rows map)) s d) ≤ mostHops
-routes-are-short {columns} {rows} {map} a s d q =
+-- no route has more hops: on either network, of every map that refusals 1 to 5 let pass, and every request that refusals 6 to 9 let pass
+pub routes-are-short : (n : Network) {columns rows : ℕ} {map : List ℕ} → Accepted columns rows map → (s d : Place) →
+    Request n (marked (mesh columns rows map)) s d → length (hopsOf n (marked (mesh columns rows map)) s d) ≤ mostHops
+routes-are-short n {columns} {rows} {map} a s d q =
     let w = marked (mesh columns rows map) in
     let o = obstacles a in
-    omega (arith, request-arrives w s d o q .hops, request-bound w s d (a .few-columns) (a .few-rows) o q)
+    omega (arith, request-arrives n w s d o q .hops, request-bound n w s d (a .few-columns) (a .few-rows) o q)

@@ -1,12 +1,11 @@
 -- What the walk theorem asks of a trip, its blocks and its source. Assumes nothing.
 use mathlib.Core.Path.{_≡_}
-use mathlib.Core.Bool.{Bool, false, not, _&&_}
+use mathlib.Core.Bool.{false, not}
 use mathlib.Core.List.{List}
 use Prim.Native.Nat.{ℕ, _+_, _≤_, _<_}
-use lib.Dec.{eqb}
 use Rattle.mesh.specs.Blocks.{Block}
 use Rattle.mesh.specs.Rules.{Trip}
-use Rattle.mesh.specs.Walk.{shutIn}
+use Rattle.mesh.specs.Walk.{shutIn, meetsEdge}
 use Rattle.theory_blocks.specs.Obstacles.{Obstacles}
 
 -- bs are the blocks; the columns that permit NW and SW alternate with those that permit EN and ES;
@@ -23,11 +22,6 @@ pub record FreePlace (t : Trip) (r c : ℕ) : Type 0 where
   pub row : r < t .rows
   pub column : c < t .columns
   pub free : t .bad r c ≡ false
-
--- in column 0, where NW and SW are forbidden, and not in the destination's row: the first hop would leave the mesh.
--- With the turns of document 01, which permit NW and SW in column 0, no place is such.
-unfoldable pub meetsEdge : Trip → ℕ → ℕ → Bool
-meetsEdge t r c = eqb c 0 && (not (t .west c) && not (eqb r (t .R)))
 
 -- a source that the hop rules serve: a free place, not shut in, and not meeting the west edge
 pub record Served (t : Trip) (r c : ℕ) : Type 0 where
