@@ -11,6 +11,7 @@ ghost use Rattle.sends.specs.Sends.{routeCallOn};
 ghost use Rattle.batch.specs.Marked.{RoutesSends};
 use marking::mark_map;
 use mesh::Checked;
+use mesh::Network;
 use numbers::routed_code;
 use sends::is_uneven;
 use sends::route_send;
@@ -20,6 +21,7 @@ use theory_batch::Batched;
 
 // All sends in turn on a marking already made, and the number of their letters.
 fn route_sends(
+    network: Network,
     columns: u32,
     rows: u32,
     marks: &[u8],
@@ -28,14 +30,14 @@ fn route_sends(
     out: &mut [u8],
 ) -> usize
     requires { ⌜ Marking columns rows (now marks) × (uneven (now sends) ≡ false) × (length (sendsOf (now sends)) ≤ length (now answers)) ⌝ }
-    ensures { λ n. ⌜ RoutesSends (routeCallOn (mesh columns rows (now (marks .entry)))) (now (sends .entry)) (now (answers .entry)) (now (out .entry)) n (now (answers .exit)) (now (out .exit)) ⌝ }
+    ensures { λ n. ⌜ RoutesSends (routeCallOn network (mesh columns rows (now (marks .entry)))) (now (sends .entry)) (now (answers .entry)) (now (out .entry)) n (now (answers .exit)) (now (out .exit)) ⌝ }
 {
     let n = sends.len() / 4;
     let mut at = 0;
     let mut i = 0;
     while i < n {
         let x = send_at(sends, i);
-        let r = route_send(columns, rows, marks, x, out, at);
+        let r = route_send(network, columns, rows, marks, x, out, at);
         answers[i] = routed_code(r);
         at += wrote(r);
         i += 1;
@@ -45,6 +47,7 @@ fn route_sends(
 
 // A whole table of sends: writes an answer for each send and the letters of the served ones, and answers the number of letters.
 pub fn route_batch(
+    network: Network,
     columns: u32,
     rows: u32,
     map: &[u8],
@@ -52,7 +55,7 @@ pub fn route_batch(
     answers: &mut [u32],
     out: &mut [u8],
 ) -> Batched
-    ensures { λ x. ⌜ RoutesBatch columns rows (now (map .entry)) (now (sends .entry)) (now (answers .entry)) (now (out .entry)) x (now (answers .exit)) (now (out .exit)) ⌝ }
+    ensures { λ x. ⌜ RoutesBatch network columns rows (now (map .entry)) (now (sends .entry)) (now (answers .entry)) (now (out .entry)) x (now (answers .exit)) (now (out .exit)) ⌝ }
 {
     let mut marks = [0u8; 4096];
     let checked = mark_map(columns, rows, map, &mut marks);
@@ -62,6 +65,14 @@ pub fn route_batch(
     if is_uneven(sends) || answers.len() < sends.len() / 4 {
         return Batched::NotSends;
     }
-    let n = route_sends(columns, rows, &marks[..map.len()], sends, answers, out);
+    let n = route_sends(
+        network,
+        columns,
+        rows,
+        &marks[..map.len()],
+        sends,
+        answers,
+        out,
+    );
     Batched::Letters(n)
 }

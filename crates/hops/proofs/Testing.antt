@@ -13,6 +13,7 @@ use Rattle.mesh.specs.declared.Last.the-variants.{None as none, Made as made}
 use Rattle.mesh.specs.declared.Letter.the-variants.{Hop}
 use Rattle.mesh.specs.declared.Mistake.{Mistake}
 use Rattle.mesh.specs.declared.Mistake.the-variants.{LeavesMesh, Reverses, BreaksRule1, BreaksRule2, EntersBlock}
+use Rattle.mesh.specs.declared.Network.{Network}
 use Rattle.mesh.specs.declared.Tested.{Tested}
 use Rattle.mesh.specs.declared.Tested.the-variants.{Wrong}
 use Rattle.mesh.specs.declared.Packet.{Packet}
@@ -63,12 +64,12 @@ unfolding lastIs hopBreaks
 straight-may west c none h e = refl
 straight-may west c (made g) h e = rw (same-heading g h e) (same-may west c h)
 
-module _ (w : Mesh) (p : Packet) (h : Heading) where
-  wrong : (m : Mistake) → mistakeNumber m ≡ letterMistake (tripOf w p) (at p) (Hop h) → Tests w p h (Wrong m)
+module _ (network : Network) (w : Mesh) (p : Packet) (h : Heading) where
+  wrong : (m : Mistake) → mistakeNumber m ≡ letterMistake (tripOf network w p) (at p) (Hop h) → Tests network w p h (Wrong m)
   wrong m e = record { told = e; onward = λ q. let z : _≡_ {A = ℕ} 0 1 = cc in absurd (omega (arith, z)) }
 
   module _ {s : Bool} (is-s : s ≡ stays (w .columns) (w .rows) h (p .place .row .0) (p .place .column .0)) where
-    pub leaves : not s ≡ true → Tests w p h (Wrong LeavesMesh)
+    pub leaves : not s ≡ true → Tests network w p h (Wrong LeavesMesh)
     unfolding letterMistake hopTests first
     leaves e = wrong LeavesMesh (rw (← is-s, not-true s e))
 
@@ -76,27 +77,27 @@ module _ (w : Mesh) (p : Packet) (h : Heading) where
     on-mesh on = sym is-s ∙ not-false s on
 
     module _ (on : not s ≡ false) {b : Bool} (is-b : b ≡ turnsBack (p .last) h) where
-      pub turns-back : b ≡ true → Tests w p h (Wrong Reverses)
+      pub turns-back : b ≡ true → Tests network w p h (Wrong Reverses)
       unfolding letterMistake hopTests first
       turns-back e = wrong Reverses (rw (on-mesh on, ← is-b, e))
 
-      module _ (ahead : b ≡ false) {t : Broken} (is-t : t ≡ hopBreaks turnsWest (p .place .column .0) (p .last) h) where
-        pub breaks-1 : t ≡ Rule1 → Tests w p h (Wrong BreaksRule1)
+      module _ (ahead : b ≡ false) {t : Broken} (is-t : t ≡ hopBreaks (turnsWest network) (p .place .column .0) (p .last) h) where
+        pub breaks-1 : t ≡ Rule1 → Tests network w p h (Wrong BreaksRule1)
         unfolding letterMistake hopTests first
         breaks-1 e = wrong BreaksRule1 (rw (on-mesh on, ← is-b, ahead, ← is-t, e))
 
-        pub breaks-2 : t ≡ Rule2 → Tests w p h (Wrong BreaksRule2)
+        pub breaks-2 : t ≡ Rule2 → Tests network w p h (Wrong BreaksRule2)
         unfolding letterMistake hopTests first
         breaks-2 e = wrong BreaksRule2 (rw (on-mesh on, ← is-b, ahead, ← is-t, e))
 
     module _ (on : not s ≡ false) {q : Packet} (is-q : q ≡ movedPacket h p) where
-      is-blocked : bad w (q .place .row .0) (q .place .column .0) ≡ blocked (tripOf w p) h 1 (p .place .row .0) (p .place .column .0)
+      is-blocked : bad w (q .place .row .0) (q .place .column .0) ≡ blocked (tripOf network w p) h 1 (p .place .row .0) (p .place .column .0)
       unfolding blocked moved
       is-blocked =
           rw is-q (sym (ahead-after (bad w) (w .columns) (w .rows) (p .place .row .0) (p .place .column .0) h (on-mesh on)))
 
-      module _ (ahead : turnsBack (p .last) h ≡ false) (may : hopBreaks turnsWest (p .place .column .0) (p .last) h ≡ Neither) where
-        by-block : (x : Bool) → bad w (q .place .row .0) (q .place .column .0) ≡ x → Tests w p h (entered w q)
+      module _ (ahead : turnsBack (p .last) h ≡ false) (may : hopBreaks (turnsWest network) (p .place .column .0) (p .last) h ≡ Neither) where
+        by-block : (x : Bool) → bad w (q .place .row .0) (q .place .column .0) ≡ x → Tests network w p h (entered w q)
         unfolding entered letterMistake hopTests first
         by-block true e = rw e (wrong EntersBlock (rw (on-mesh on, ahead, may, ← is-blocked, e)))
         by-block false e =
@@ -106,5 +107,5 @@ module _ (w : Mesh) (p : Packet) (h : Heading) where
               onward = λ {after} same. let z : after ≡ q = cc in z ∙ is-q;
             })
 
-        pub enters : {x : Tested} → x ≡ entered w q → Tests w p h x
+        pub enters : {x : Tested} → x ≡ entered w q → Tests network w p h x
         enters e = rw e (by-block _ refl)

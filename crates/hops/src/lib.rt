@@ -14,6 +14,7 @@ use mesh::Column;
 use mesh::Heading;
 use mesh::Last;
 use mesh::Mistake;
+use mesh::Network;
 use mesh::Packet;
 use mesh::Place;
 use mesh::Row;
@@ -107,9 +108,16 @@ fn enter(columns: u32, rows: u32, marks: &[u8], after: Packet) -> Tested
 }
 
 // What is wrong with a hop, tested in the order of the paper. A hop straight on makes no turn.
-pub fn test_hop(columns: u32, rows: u32, marks: &[u8], p: Packet, h: Heading) -> Tested
+pub fn test_hop(
+    network: Network,
+    columns: u32,
+    rows: u32,
+    marks: &[u8],
+    p: Packet,
+    h: Heading,
+) -> Tested
     requires { ⌜ OnMesh columns rows (now marks) (p .place .row .0) (p .place .column .0) ⌝ }
-    ensures { λ x. ⌜ Tests (mesh columns rows (now (marks .entry))) p h x ⌝ }
+    ensures { λ x. ⌜ Tests network (mesh columns rows (now (marks .entry))) p h x ⌝ }
 {
     let c = p.place.column;
     let l = p.last;
@@ -123,7 +131,7 @@ pub fn test_hop(columns: u32, rows: u32, marks: &[u8], p: Packet, h: Heading) ->
     if turns_back(l, h) {
         return Tested::Wrong(Mistake::Reverses);
     }
-    let broken = hop_breaks(l, h, c);
+    let broken = hop_breaks(network, l, h, c);
     match broken {
         Broken::Neither => {}
         Broken::Rule1 => return Tested::Wrong(Mistake::BreaksRule1),

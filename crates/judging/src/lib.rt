@@ -14,15 +14,23 @@ use mesh::Judged;
 use mesh::Last;
 use mesh::Letter;
 use mesh::Mistake;
+use mesh::Network;
 use mesh::Packet;
 use mesh::Place;
 use mesh::Tested;
 use requests::check_places;
 
 // The letters in turn, on a marking.
-fn judge_letters(columns: u32, rows: u32, marks: &[u8], packet: Packet, letters: &[u8]) -> Judged
+fn judge_letters(
+    network: Network,
+    columns: u32,
+    rows: u32,
+    marks: &[u8],
+    packet: Packet,
+    letters: &[u8],
+) -> Judged
     requires { ⌜ OnMesh columns rows (now marks) (packet .place .row .0) (packet .place .column .0) ⌝ }
-    ensures { λ x. ⌜ judgedVerdict x ≡ judge (tripOf (mesh columns rows (now (marks .entry))) packet) (at packet) 0 (now (letters .entry)) ⌝ }
+    ensures { λ x. ⌜ judgedVerdict x ≡ judge (tripOf network (mesh columns rows (now (marks .entry))) packet) (at packet) 0 (now (letters .entry)) ⌝ }
 {
     let n = letters.len();
     let mut p = packet;
@@ -32,7 +40,7 @@ fn judge_letters(columns: u32, rows: u32, marks: &[u8], packet: Packet, letters:
         match named {
             Letter::Other => return Judged::Failed(Mistake::NoLetter, i),
             Letter::Hop(h) => {
-                let tested = test_hop(columns, rows, marks, p, h);
+                let tested = test_hop(network, columns, rows, marks, p, h);
                 match tested {
                     Tested::Wrong(m) => return Judged::Failed(m, i),
                     Tested::Lawful(after) => {
@@ -50,9 +58,17 @@ fn judge_letters(columns: u32, rows: u32, marks: &[u8], packet: Packet, letters:
 }
 
 // On a marking: refusals 6 and 7, then the letters.
-fn judge_marked(columns: u32, rows: u32, marks: &[u8], s: Place, d: Place, letters: &[u8]) -> Judged
+fn judge_marked(
+    network: Network,
+    columns: u32,
+    rows: u32,
+    marks: &[u8],
+    s: Place,
+    d: Place,
+    letters: &[u8],
+) -> Judged
     requires { ⌜ Sized columns rows (now marks) ⌝ }
-    ensures { λ x. ⌜ judgedVerdict x ≡ judgementOn (mesh columns rows (now (marks .entry))) s d (now (letters .entry)) ⌝ }
+    ensures { λ x. ⌜ judgedVerdict x ≡ judgementOn network (mesh columns rows (now (marks .entry))) s d (now (letters .entry)) ⌝ }
 {
     let checked = check_places(columns, rows, marks, s, d);
     if let Checked::Refused(why) = checked {
@@ -63,17 +79,25 @@ fn judge_marked(columns: u32, rows: u32, marks: &[u8], s: Place, d: Place, lette
         last: Last::None,
         destination: d,
     };
-    judge_letters(columns, rows, marks, fresh, letters)
+    judge_letters(network, columns, rows, marks, fresh, letters)
 }
 
 // Judge a hand-in: passed with its length, or what is wrong first and where, or refused.
-pub fn judge(columns: u32, rows: u32, map: &[u8], s: Place, d: Place, letters: &[u8]) -> Judged
-    ensures { λ x. ⌜ judgedVerdict x ≡ judgement columns rows (now (map .entry)) s d (now (letters .entry)) ⌝ }
+pub fn judge(
+    network: Network,
+    columns: u32,
+    rows: u32,
+    map: &[u8],
+    s: Place,
+    d: Place,
+    letters: &[u8],
+) -> Judged
+    ensures { λ x. ⌜ judgedVerdict x ≡ judgement network columns rows (now (map .entry)) s d (now (letters .entry)) ⌝ }
 {
     let mut marks = [0u8; 4096];
     let checked = mark_map(columns, rows, map, &mut marks);
     if let Checked::Refused(why) = checked {
         return Judged::Refused(why);
     }
-    judge_marked(columns, rows, &marks[..map.len()], s, d, letters)
+    judge_marked(network, columns, rows, &marks[..map.len()], s, d, letters)
 }

@@ -6,6 +6,7 @@ use mathlib.Core.List.{List, [], _∷_, _++_}
 use Prim.Native.Nat.{ℕ, _≤_, _<_}
 use borrow.Author.Tests.{lt-ltb, le-ltb, lt-leb, le-leb, ltb-true, ltb-false}
 use lib.Dec.{leb, ltb}
+use Rattle.mesh.specs.declared.Network.{Network}
 use Rattle.mesh.specs.declared.Place.{Place}
 use Rattle.mesh.specs.declared.Refusal.{Refusal}
 use Rattle.mesh.specs.declared.Refusal.the-variants.{BlockNearInRow, Unlawful}
@@ -86,18 +87,18 @@ module _ (w : Mesh) (s d : Place) {x : Checked} where
       pub near-clear : r ≡ false → checkedNumber Clear ≡ first (tripTests w s d)
       near-clear f = rw (← near-decides, f)
 
-  module _ (told : checkedNumber x ≡ first (tripTests w s d)) where
-    pub trip-first : {why : Refusal} → x ≡ Refused why → checkedNumber (Refused why) ≡ first (requestTests w s d)
+  module _ (n : Network) (told : checkedNumber x ≡ first (tripTests w s d)) where
+    pub trip-first : {why : Refusal} → x ≡ Refused why → checkedNumber (Refused why) ≡ first (requestTests n w s d)
     unfolding requestTests
-    trip-first = before-it (tripTests w s d) (trip-numbered w s d) (unserved w s d gives 9) told
+    trip-first = before-it (tripTests w s d) (trip-numbered w s d) (unserved n w s d gives 9) told
 
-    module _ (e : x ≡ Clear) {u : Bool} (is-u : u ≡ unserved w s d) where
-      unserved-decides : cond u 9 0 ≡ first (requestTests w s d)
+    module _ (e : x ≡ Clear) {u : Bool} (is-u : u ≡ unserved n w s d) where
+      unserved-decides : cond u 9 0 ≡ first (requestTests n w s d)
       unfolding requestTests
-      unserved-decides = rw is-u (it-decides (tripTests w s d) (trip-numbered w s d) (unserved w s d gives 9) told e)
+      unserved-decides = rw is-u (it-decides (tripTests w s d) (trip-numbered w s d) (unserved n w s d gives 9) told e)
 
-      pub unserved-refused : u ≡ true → checkedNumber (Refused Unlawful) ≡ first (requestTests w s d)
+      pub unserved-refused : u ≡ true → checkedNumber (Refused Unlawful) ≡ first (requestTests n w s d)
       unserved-refused f = rw (← unserved-decides, f)
 
-      pub unserved-clear : u ≡ false → checkedNumber Clear ≡ first (requestTests w s d)
+      pub unserved-clear : u ≡ false → checkedNumber Clear ≡ first (requestTests n w s d)
       unserved-clear f = rw (← unserved-decides, f)

@@ -11,6 +11,7 @@ ghost use Rattle.blocks.specs.Marking.{Marking};
 use blocks::is_block_near_in_row;
 use mesh::Checked;
 use mesh::Heading;
+use mesh::Network;
 use mesh::Place;
 use mesh::Refusal;
 use nodes::is_bad;
@@ -70,14 +71,17 @@ pub fn check_trip(columns: u32, rows: u32, marks: &[u8], s: Place, d: Place) -> 
     Checked::Clear
 }
 
-// What refusal 9 comes to: NW and SW are forbidden in the source's column, its west neighbour is in a block, and the destination is in
-// another row or to the west.
-fn is_unserved(columns: u32, rows: u32, marks: &[u8], s: Place, d: Place) -> bool
+// What refusal 9 comes to: NW and SW are forbidden in the source's column, and it is column 0 and the destination in another row, or its west
+// neighbour is in a block and the destination in another row or to the west.
+fn is_unserved(network: Network, columns: u32, rows: u32, marks: &[u8], s: Place, d: Place) -> bool
     requires { ⌜ OnMesh columns rows (now marks) (s .row .0) (s .column .0) ⌝ }
-    ensures { λ x. ⌜ x ≡ unserved (mesh columns rows (now (marks .entry))) s d ⌝ }
+    ensures { λ x. ⌜ x ≡ unserved network (mesh columns rows (now (marks .entry))) s d ⌝ }
 {
-    if turns_west(s.column) {
+    if turns_west(network, s.column) {
         return false;
+    }
+    if s.column.0 == 0 {
+        return s.row.0 != d.row.0;
     }
     if !is_bad_ahead(columns, rows, marks, s.row, s.column, Heading::West, 1) {
         return false;
@@ -89,15 +93,22 @@ fn is_unserved(columns: u32, rows: u32, marks: &[u8], s: Place, d: Place) -> boo
 }
 
 // Refusals 6 to 9.
-pub fn check_request(columns: u32, rows: u32, marks: &[u8], s: Place, d: Place) -> Checked
+pub fn check_request(
+    network: Network,
+    columns: u32,
+    rows: u32,
+    marks: &[u8],
+    s: Place,
+    d: Place,
+) -> Checked
     requires { ⌜ Marking columns rows (now marks) ⌝ }
-    ensures { λ x. ⌜ checkedNumber x ≡ first (requestTests (mesh columns rows (now (marks .entry))) s d) ⌝ }
+    ensures { λ x. ⌜ checkedNumber x ≡ first (requestTests network (mesh columns rows (now (marks .entry))) s d) ⌝ }
 {
     let checked = check_trip(columns, rows, marks, s, d);
     if let Checked::Refused(why) = checked {
         return Checked::Refused(why);
     }
-    if is_unserved(columns, rows, marks, s, d) {
+    if is_unserved(network, columns, rows, marks, s, d) {
         return Checked::Refused(Refusal::Unlawful);
     }
     Checked::Clear

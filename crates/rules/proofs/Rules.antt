@@ -1,7 +1,7 @@
 -- The rules as the code goes through them, case by case: what the tests found, and what the rules then say. Assumes nothing.
 use mathlib.Core.Path.{_≡_, refl, sym, ap, _∙_}
 use mathlib.Core.Logic.{inl, inr}
-use mathlib.Core.Bool.{Bool, true, false, not, cond, _||_}
+use mathlib.Core.Bool.{Bool, true, false, not, cond, _&&_, _||_}
 use Prim.Native.Nat.{ℕ}
 use borrow.Author.Tests.{not-true, not-false}
 use lib.Dec.{ltb}
@@ -46,14 +46,18 @@ module _ (t : Trip) (r c : ℕ) where
     unfolding stopped blocked
     stopped-next v = rw (← es, ← ex, v)
 
-    module _ (f : x ≡ false) {y : Bool} (ey : y ≡ own t s c) where
-      pub stopped-not : not y ≡ true → false ≡ stopped t r c
-      unfolding stopped blocked
-      stopped-not n = rw (← es, ← ex, f, ← ey, not-true y n)
+    pub stopped-second : {z : Bool} → x ≡ false → z ≡ own t s c && blocked t s 2 r c → z ≡ stopped t r c
+    unfolding stopped blocked
+    stopped-second f ez = rw (← es, ← ex, f) ez
 
-      pub stopped-second : {z : Bool} → not y ≡ false → z ≡ ahead (t .bad) s 2 r c → z ≡ stopped t r c
-      unfolding stopped blocked
-      stopped-second n ez = rw (← es, ← ex, f, ← ey, not-false y n) ez
+  -- by the second node to the side
+  module _ (s : Heading) {y : Bool} (ey : y ≡ own t s c) where
+    pub second-not : not y ≡ true → false ≡ own t s c && blocked t s 2 r c
+    second-not n = rw (← ey, not-true y n)
+
+    pub second-bad : {z : Bool} → not y ≡ false → z ≡ ahead (t .bad) s 2 r c → z ≡ own t s c && blocked t s 2 r c
+    unfolding blocked
+    second-bad n ez = rw (← ey, not-false y n) ez
 
   -- rule 3
   pub leaving-stopped : (h : Heading) {x : Bool} → x ≡ stopped t r c → x ≡ true → h ≡ leaving t r c h

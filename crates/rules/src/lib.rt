@@ -1,10 +1,11 @@
 // The hop rules.
 ghost use mathlib.Core.Path.{_≡_};
-ghost use mathlib.Core.Bool.{false};
+ghost use mathlib.Core.Bool.{false, _&&_};
 ghost use Rattle.mesh.specs.declared.Last.the-variants.{Made};
+ghost use Rattle.mesh.specs.declared.Network.{Network};
 ghost use Rattle.mesh.specs.declared.Place.{Place};
 ghost use Rattle.mesh.specs.Mesh.{Mesh, mesh};
-ghost use Rattle.mesh.specs.Rules.{Trip, tripOn, side, toward, own, stopped, again, inRow, leaving, across, nearing, otherRow};
+ghost use Rattle.mesh.specs.Rules.{Trip, tripOn, blocked, side, toward, own, stopped, again, inRow, leaving, across, nearing, otherRow};
 ghost use Rattle.mesh.specs.Hops.{at, tripOf};
 ghost use Rattle.mesh.specs.Walk.{hopAt};
 ghost use Rattle.nodes.specs.Sized.{OnMesh};
@@ -15,6 +16,7 @@ use headings::is_vertical;
 use mesh::Column;
 use mesh::Heading;
 use mesh::Last;
+use mesh::Network;
 use mesh::Packet;
 use mesh::Row;
 use nodes::is_bad_ahead;
@@ -41,21 +43,42 @@ pub fn toward(from: Row, to: Row) -> Heading
 }
 
 // Whether this column permits a side's own turns: EN and ES for E, NW and SW for W.
-fn is_own(s: Heading, c: Column) -> bool
-    ensures { λ x. ⌜ ((w : Mesh) (d : Place) → x ≡ own (tripOn w d) s (c .0)) ⌝ }
+fn is_own(network: Network, s: Heading, c: Column) -> bool
+    ensures { λ x. ⌜ ((w : Mesh) (d : Place) → x ≡ own (tripOn network w d) s (c .0)) ⌝ }
 {
     match s {
-        Heading::East => return !turns_west(c),
+        Heading::East => return !turns_west(network, c),
         Heading::North => return false,
         Heading::South => return false,
-        Heading::West => return turns_west(c),
+        Heading::West => return turns_west(network, c),
     }
 }
 
-// Whether the packet is stopped: the next node to the side is in a block, or the second one is and the column permits the side's turns.
-pub fn is_stopped(columns: u32, rows: u32, marks: &[u8], p: Packet) -> bool
+// Whether the second node to the side h stops the packet, though the next one is free: it is in a block, and the column permits the side's own
+// turns.
+pub fn is_stopped_by_second(
+    network: Network,
+    columns: u32,
+    rows: u32,
+    marks: &[u8],
+    p: Packet,
+    h: Heading,
+) -> bool
     requires { ⌜ OnMesh columns rows (now marks) (p .place .row .0) (p .place .column .0) ⌝ }
-    ensures { λ x. ⌜ x ≡ stopped (tripOf (mesh columns rows (now (marks .entry))) p) (p .place .row .0) (p .place .column .0) ⌝ }
+    ensures { λ x. ⌜ x ≡ own (tripOf network (mesh columns rows (now (marks .entry))) p) h (p .place .column .0) && blocked (tripOf network (mesh columns rows (now (marks .entry))) p) h 2 (p .place .row .0) (p .place .column .0) ⌝ }
+{
+    let r = p.place.row;
+    let c = p.place.column;
+    if !is_own(network, h, c) {
+        return false;
+    }
+    is_bad_ahead(columns, rows, marks, r, c, h, 2)
+}
+
+// Whether the packet is stopped: the next node to the side is in a block, or the second one is and the column permits the side's turns.
+pub fn is_stopped(network: Network, columns: u32, rows: u32, marks: &[u8], p: Packet) -> bool
+    requires { ⌜ OnMesh columns rows (now marks) (p .place .row .0) (p .place .column .0) ⌝ }
+    ensures { λ x. ⌜ x ≡ stopped (tripOf network (mesh columns rows (now (marks .entry))) p) (p .place .row .0) (p .place .column .0) ⌝ }
 {
     let r = p.place.row;
     let c = p.place.column;
@@ -63,10 +86,7 @@ pub fn is_stopped(columns: u32, rows: u32, marks: &[u8], p: Packet) -> bool
     if is_bad_ahead(columns, rows, marks, r, c, h, 1) {
         return true;
     }
-    if !is_own(h, c) {
-        return false;
-    }
-    is_bad_ahead(columns, rows, marks, r, c, h, 2)
+    is_stopped_by_second(network, columns, rows, marks, p, h)
 }
 
 // The hop at a stop in the destination's row: the last one again if it was N or S, else N.
@@ -85,33 +105,40 @@ pub fn again(l: Last) -> Heading
 }
 
 // Rule 3, where the last hop h leads away from the destination's row: stopped, it is repeated, else the hop is to the side.
-fn leaving(columns: u32, rows: u32, marks: &[u8], p: Packet, h: Heading) -> Heading
+fn leaving(
+    network: Network,
+    columns: u32,
+    rows: u32,
+    marks: &[u8],
+    p: Packet,
+    h: Heading,
+) -> Heading
     requires { ⌜ OnMesh columns rows (now marks) (p .place .row .0) (p .place .column .0) ⌝ }
-    ensures { λ x. ⌜ x ≡ leaving (tripOf (mesh columns rows (now (marks .entry))) p) (p .place .row .0) (p .place .column .0) h ⌝ }
+    ensures { λ x. ⌜ x ≡ leaving (tripOf network (mesh columns rows (now (marks .entry))) p) (p .place .row .0) (p .place .column .0) h ⌝ }
 {
-    if is_stopped(columns, rows, marks, p) {
+    if is_stopped(network, columns, rows, marks, p) {
         return h;
     }
     side(p.place.column, p.destination.column)
 }
 
 // Rule 2, in the destination's row: as rule 3, with the hop that a stop asks for.
-fn in_row(columns: u32, rows: u32, marks: &[u8], p: Packet) -> Heading
+fn in_row(network: Network, columns: u32, rows: u32, marks: &[u8], p: Packet) -> Heading
     requires { ⌜ OnMesh columns rows (now marks) (p .place .row .0) (p .place .column .0) ⌝ }
-    ensures { λ x. ⌜ x ≡ inRow (tripOf (mesh columns rows (now (marks .entry))) p) (p .place .row .0) (p .place .column .0) (p .last) ⌝ }
+    ensures { λ x. ⌜ x ≡ inRow (tripOf network (mesh columns rows (now (marks .entry))) p) (p .place .row .0) (p .place .column .0) (p .last) ⌝ }
 {
     let l = p.last;
-    leaving(columns, rows, marks, p, again(l))
+    leaving(network, columns, rows, marks, p, again(l))
 }
 
 // Rules 4 (s is E) and 6 (s is W): toward the destination's row if the column permits the turn and that node isn't in a block, else s.
-fn across(columns: u32, rows: u32, marks: &[u8], p: Packet, s: Heading) -> Heading
+fn across(network: Network, columns: u32, rows: u32, marks: &[u8], p: Packet, s: Heading) -> Heading
     requires { ⌜ OnMesh columns rows (now marks) (p .place .row .0) (p .place .column .0) ⌝ }
-    ensures { λ x. ⌜ x ≡ across (tripOf (mesh columns rows (now (marks .entry))) p) (p .place .row .0) (p .place .column .0) s ⌝ }
+    ensures { λ x. ⌜ x ≡ across (tripOf network (mesh columns rows (now (marks .entry))) p) (p .place .row .0) (p .place .column .0) s ⌝ }
 {
     let r = p.place.row;
     let c = p.place.column;
-    if !is_own(s, c) {
+    if !is_own(network, s, c) {
         return s;
     }
     let h = toward(r, p.destination.row);
@@ -124,7 +151,7 @@ fn across(columns: u32, rows: u32, marks: &[u8], p: Packet, s: Heading) -> Headi
 // Rule 5, where the last hop h leads toward the destination's row: it is repeated if that node isn't in a block, else W.
 fn nearing(columns: u32, rows: u32, marks: &[u8], p: Packet, h: Heading) -> Heading
     requires { ⌜ OnMesh columns rows (now marks) (p .place .row .0) (p .place .column .0) ⌝ }
-    ensures { λ x. ⌜ x ≡ nearing (tripOf (mesh columns rows (now (marks .entry))) p) (p .place .row .0) (p .place .column .0) h ⌝ }
+    ensures { λ x. ⌜ ((network : Network) → x ≡ nearing (tripOf network (mesh columns rows (now (marks .entry))) p) (p .place .row .0) (p .place .column .0) h) ⌝ }
 {
     if is_bad_ahead(columns, rows, marks, p.place.row, p.place.column, h, 1) {
         return Heading::West;
@@ -148,32 +175,32 @@ pub fn is_nearing(p: Packet) -> bool
 }
 
 // Rules 3, 4 and 6, after hop h, which does not lead toward the destination's row.
-fn after(columns: u32, rows: u32, marks: &[u8], p: Packet, h: Heading) -> Heading
+fn after(network: Network, columns: u32, rows: u32, marks: &[u8], p: Packet, h: Heading) -> Heading
     requires { ⌜ OnMesh columns rows (now marks) (p .place .row .0) (p .place .column .0) × (p .last ≡ Made h) × (nearsRow p ≡ false) ⌝ }
-    ensures { λ x. ⌜ x ≡ otherRow (tripOf (mesh columns rows (now (marks .entry))) p) (p .place .row .0) (p .place .column .0) (p .last) ⌝ }
+    ensures { λ x. ⌜ x ≡ otherRow (tripOf network (mesh columns rows (now (marks .entry))) p) (p .place .row .0) (p .place .column .0) (p .last) ⌝ }
 {
     if is_vertical(h) {
-        return leaving(columns, rows, marks, p, h);
+        return leaving(network, columns, rows, marks, p, h);
     }
-    across(columns, rows, marks, p, h)
+    across(network, columns, rows, marks, p, h)
 }
 
 // Rules 3, 4 and 6: the last hop does not lead toward the destination's row.
-pub fn go_round(columns: u32, rows: u32, marks: &[u8], p: Packet) -> Heading
+pub fn go_round(network: Network, columns: u32, rows: u32, marks: &[u8], p: Packet) -> Heading
     requires { ⌜ OnMesh columns rows (now marks) (p .place .row .0) (p .place .column .0) × (nearsRow p ≡ false) ⌝ }
-    ensures { λ x. ⌜ x ≡ otherRow (tripOf (mesh columns rows (now (marks .entry))) p) (p .place .row .0) (p .place .column .0) (p .last) ⌝ }
+    ensures { λ x. ⌜ x ≡ otherRow (tripOf network (mesh columns rows (now (marks .entry))) p) (p .place .row .0) (p .place .column .0) (p .last) ⌝ }
 {
     let l = p.last;
     match l {
-        Last::None => return across(columns, rows, marks, p, Heading::West),
-        Last::Made(h) => return after(columns, rows, marks, p, h),
+        Last::None => return across(network, columns, rows, marks, p, Heading::West),
+        Last::Made(h) => return after(network, columns, rows, marks, p, h),
     }
 }
 
 // Rules 3 to 6, in another row than the destination's.
-fn other_row(columns: u32, rows: u32, marks: &[u8], p: Packet) -> Heading
+fn other_row(network: Network, columns: u32, rows: u32, marks: &[u8], p: Packet) -> Heading
     requires { ⌜ OnMesh columns rows (now marks) (p .place .row .0) (p .place .column .0) ⌝ }
-    ensures { λ x. ⌜ x ≡ otherRow (tripOf (mesh columns rows (now (marks .entry))) p) (p .place .row .0) (p .place .column .0) (p .last) ⌝ }
+    ensures { λ x. ⌜ x ≡ otherRow (tripOf network (mesh columns rows (now (marks .entry))) p) (p .place .row .0) (p .place .column .0) (p .last) ⌝ }
 {
     if is_nearing(p) {
         return nearing(
@@ -184,16 +211,16 @@ fn other_row(columns: u32, rows: u32, marks: &[u8], p: Packet) -> Heading
             toward(p.place.row, p.destination.row),
         );
     }
-    go_round(columns, rows, marks, p)
+    go_round(network, columns, rows, marks, p)
 }
 
 // The hop by the rules, where the packet is not yet at its destination.
-pub fn hop(columns: u32, rows: u32, marks: &[u8], p: Packet) -> Heading
+pub fn hop(network: Network, columns: u32, rows: u32, marks: &[u8], p: Packet) -> Heading
     requires { ⌜ OnMesh columns rows (now marks) (p .place .row .0) (p .place .column .0) ⌝ }
-    ensures { λ x. ⌜ x ≡ hopAt (tripOf (mesh columns rows (now (marks .entry))) p) (at p) ⌝ }
+    ensures { λ x. ⌜ x ≡ hopAt (tripOf network (mesh columns rows (now (marks .entry))) p) (at p) ⌝ }
 {
     if is_in_row(p) {
-        return in_row(columns, rows, marks, p);
+        return in_row(network, columns, rows, marks, p);
     }
-    other_row(columns, rows, marks, p)
+    other_row(network, columns, rows, marks, p)
 }

@@ -7,6 +7,7 @@ ghost use Rattle.blocks.specs.Marking.{Marking};
 ghost use Rattle.theory_batch.specs.Sends.{uneven};
 ghost use Rattle.sends.specs.Sends.{sendAt, wrote, routeCallOn, RoutesSend};
 use mesh::Column;
+use mesh::Network;
 use mesh::Place;
 use mesh::Routed;
 use mesh::Row;
@@ -52,6 +53,7 @@ pub fn wrote(r: Routed) -> usize
 
 // Route for a send, with the output that is free: from index at on.
 pub fn route_send(
+    network: Network,
     columns: u32,
     rows: u32,
     marks: &[u8],
@@ -60,9 +62,10 @@ pub fn route_send(
     at: usize,
 ) -> Routed
     requires { ⌜ Marking columns rows (now marks) × (at ≤ length (now out)) ⌝ }
-    ensures { λ r. ⌜ RoutesSend (routeCallOn (mesh columns rows (now (marks .entry)))) x (now (out .entry)) at r (now (out .exit)) ⌝ }
+    ensures { λ r. ⌜ RoutesSend (routeCallOn network (mesh columns rows (now (marks .entry)))) x (now (out .entry)) at r (now (out .exit)) ⌝ }
 {
     route_marked(
+        network,
         columns,
         rows,
         marks,

@@ -9,6 +9,7 @@ ghost use Rattle.blocks.specs.Marking.{Marking};
 ghost use Rattle.theory_sheet.specs.Sheet.{sendAnswer, commandStep, atEnd};
 ghost use Rattle.sheet_state.specs.Keeping.{mapOf, stateOf, Ready, saysLine, saysEnds, saysNumber};
 ghost use Rattle.sheet_lines.specs.Answers.{sendRoom, answerRoom, Answers};
+use mesh::Network;
 use mesh::Place;
 use mesh::Routed;
 use numbers::refusal_number;
@@ -73,7 +74,15 @@ fn answer_send(
     ensures { λ x. ⌜ Puts (now (out .entry)) at (sendAnswer (mesh (sheet .columns) (sheet .rows) (mapOf sheet (now (map .entry)))) s d) x (now (out .exit)) ⌝ }
 {
     let n = (sheet.columns * sheet.rows) as usize;
-    let routed = route_marked(sheet.columns, sheet.rows, &map[..n], s, d, letters);
+    let routed = route_marked(
+        Network::First,
+        sheet.columns,
+        sheet.rows,
+        &map[..n],
+        s,
+        d,
+        letters,
+    );
     match routed {
         Routed::Hops(n) => return put_ok(out, at, &letters[..n as usize]),
         Routed::Refused(why) => return put_no(out, at, refusal_number(why)),

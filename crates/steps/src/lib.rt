@@ -14,6 +14,7 @@ use hops::test_hop;
 use marking::mark_map;
 use mesh::Checked;
 use mesh::Moved;
+use mesh::Network;
 use mesh::Packet;
 use mesh::Refusal;
 use mesh::Stepped;
@@ -22,12 +23,12 @@ use requests::check_trip;
 use rules::hop;
 
 // The hop by the rules from where the packet is, or refusal 9.
-fn make_hop(columns: u32, rows: u32, marks: &[u8], before: Packet) -> Stepped
+fn make_hop(network: Network, columns: u32, rows: u32, marks: &[u8], before: Packet) -> Stepped
     requires { ⌜ OnMesh columns rows (now marks) (before .place .row .0) (before .place .column .0) × (isThere before ≡ false) ⌝ }
-    ensures { λ x. ⌜ Moves 0 (mesh columns rows (now (marks .entry))) before (x .moved) (x .packet) ⌝ }
+    ensures { λ x. ⌜ Moves 0 network (mesh columns rows (now (marks .entry))) before (x .moved) (x .packet) ⌝ }
 {
-    let h = hop(columns, rows, marks, before);
-    let tested = test_hop(columns, rows, marks, before, h);
+    let h = hop(network, columns, rows, marks, before);
+    let tested = test_hop(network, columns, rows, marks, before, h);
     if let Tested::Lawful(after) = tested {
         return Stepped {
             packet: after,
@@ -41,9 +42,9 @@ fn make_hop(columns: u32, rows: u32, marks: &[u8], before: Packet) -> Stepped
 }
 
 // On a marking: refusals 6 to 8, then "arrived", then the hop.
-fn step_marked(columns: u32, rows: u32, marks: &[u8], p: Packet) -> Stepped
+fn step_marked(network: Network, columns: u32, rows: u32, marks: &[u8], p: Packet) -> Stepped
     requires { ⌜ Marking columns rows (now marks) ⌝ }
-    ensures { λ x. ⌜ Moves (first (tripTests (mesh columns rows (now (marks .entry))) (p .place) (p .destination))) (mesh columns rows (now (marks .entry))) p (x .moved) (x .packet) ⌝ }
+    ensures { λ x. ⌜ Moves (first (tripTests (mesh columns rows (now (marks .entry))) (p .place) (p .destination))) network (mesh columns rows (now (marks .entry))) p (x .moved) (x .packet) ⌝ }
 {
     let checked = check_trip(columns, rows, marks, p.place, p.destination);
     if let Checked::Refused(why) = checked {
@@ -58,12 +59,12 @@ fn step_marked(columns: u32, rows: u32, marks: &[u8], p: Packet) -> Stepped
             moved: Moved::Arrived,
         };
     }
-    make_hop(columns, rows, marks, p)
+    make_hop(network, columns, rows, marks, p)
 }
 
 // One hop of a packet, from record to record.
-pub fn step(columns: u32, rows: u32, map: &[u8], packet: Packet) -> Stepped
-    ensures { λ x. ⌜ MovesOn columns rows (now (map .entry)) packet (x .moved) (x .packet) ⌝ }
+pub fn step(network: Network, columns: u32, rows: u32, map: &[u8], packet: Packet) -> Stepped
+    ensures { λ x. ⌜ MovesOn network columns rows (now (map .entry)) packet (x .moved) (x .packet) ⌝ }
 {
     let mut marks = [0u8; 4096];
     let checked = mark_map(columns, rows, map, &mut marks);
@@ -73,5 +74,5 @@ pub fn step(columns: u32, rows: u32, map: &[u8], packet: Packet) -> Stepped
             moved: Moved::Refused(why),
         };
     }
-    step_marked(columns, rows, &marks[..map.len()], packet)
+    step_marked(network, columns, rows, &marks[..map.len()], packet)
 }

@@ -4,6 +4,7 @@ use mathlib.Core.Bool.{Bool, true, false, _||_}
 use mathlib.Core.List.{List}
 use Prim.Native.Nat.{ℕ, zero, suc, _<_}
 use Rattle.mesh.specs.declared.Heading.{Heading}
+use Rattle.mesh.specs.declared.Network.{Network}
 use Rattle.mesh.specs.declared.Packet.{Packet}
 use Rattle.mesh.specs.Mesh.{Mesh}
 use Rattle.mesh.specs.Rules.{stopped}
@@ -27,11 +28,11 @@ after zero h p = p
 after (suc i) h p = after i h (movedPacket h p)
 
 -- the next n hops by the rules are all that way, and none begins at the destination
-pub record Runs (w : Mesh) (h : Heading) (n : ℕ) (p : Packet) : Type 0 where
+pub record Runs (network : Network) (w : Mesh) (h : Heading) (n : ℕ) (p : Packet) : Type 0 where
   pub away : (i : ℕ) → i < n → isThere (after i h p) ≡ false
-  pub hops : (i : ℕ) → i < n → h ≡ hopFrom w (after i h p)
+  pub hops : (i : ℕ) → i < n → h ≡ hopFrom network w (after i h p)
 
 -- n hops to the side are made before the packet is there or stopped; it is stopped at once if they are none
-pub record Unstopped (w : Mesh) (s : Heading) (n : ℕ) (p : Packet) : Type 0 where
-  pub runs : Runs w s n p
-  pub stops : n ≡ 0 → stopped (tripOf w p) (p .place .row .0) (p .place .column .0) ≡ true
+pub record Unstopped (network : Network) (w : Mesh) (s : Heading) (n : ℕ) (p : Packet) : Type 0 where
+  pub runs : Runs network w s n p
+  pub stops : n ≡ 0 → stopped (tripOf network w p) (p .place .row .0) (p .place .column .0) ≡ true

@@ -11,6 +11,7 @@ use Rattle.mesh.specs.declared.Broken.{Broken}
 use Rattle.mesh.specs.declared.Broken.the-variants.{Neither, Rule1, Rule2}
 use Rattle.mesh.specs.declared.Heading.{Heading}
 use Rattle.mesh.specs.declared.Heading.the-variants.{East as E, North as N, South as S, West as W}
+use Rattle.mesh.specs.declared.Network.{Network}
 use Rattle.mesh.specs.Headings.{opposite, same, code, direction}
 use Rattle.mesh.specs.Parity.{remainder, permitsWest, turnsWest}
 use Rattle.mesh.specs.Turns.{breaks, turnBreaks, reverses}
@@ -38,11 +39,11 @@ unfolding brokenRule turnBreaks breaks
 rule-of-turn west c p e g h = rw (e, direction-of-code g, direction-of-code h)
 
 -- so the number of the rule tells it
-pub rule-told : (g h : Heading) (c : ℕ) {a b p n : ℕ} → a ≡ code g → b ≡ code h → p ≡ remainder c → n ≡ brokenRule a b p →
-    ruleOf n ≡ turnBreaks turnsWest c g h
+pub rule-told : (network : Network) (g h : Heading) (c : ℕ) {a b p n : ℕ} →
+    a ≡ code g → b ≡ code h → p ≡ remainder network c → n ≡ brokenRule a b p → ruleOf n ≡ turnBreaks (turnsWest network) c g h
 unfolding turnsWest
-rule-told g h c is-a is-b is-p e =
-    rw (e, is-a, is-b, is-p, rule-of-turn turnsWest c (remainder c) refl g h) (rule-of-number (turnBreaks turnsWest c g h))
+rule-told network g h c is-a is-b is-p e =
+    rw (e, is-a, is-b, is-p, rule-of-turn (turnsWest network) c (remainder network c) refl g h) (rule-of-number (turnBreaks (turnsWest network) c g h))
 
 -- two quarter turns are a reversal
 pub back-reverses : (g h : Heading) → eqb (quarterTurns (code g) (code h)) 2 ≡ reverses g h

@@ -2,15 +2,15 @@
 use mathlib.Core.Path.{_≡_, refl, _∙_}
 use mathlib.Core.Bool.{Bool, true}
 use Prim.Native.Nat.{ℕ, _<_}
-use native.Mathlib.Nat.{mod-lt}
-use native.Mathlib.Omega.{arith}
 use borrow.Author.Tests.{eqb-true}
 use lib.Dec.{eqb}
 use Rattle.mesh.specs.declared.Heading.{Heading}
+use Rattle.mesh.specs.declared.Network.{Network}
 use Rattle.mesh.specs.Headings.{same, code, direction}
 use Rattle.mesh.specs.Parity.{remainder, permitsWest, turnsWest}
 use Rattle.mesh.specs.Turns.{breaks, turnBreaks, reverses}
 use Rattle.mesh.proofs.Headings.{code-few}
+use Rattle.mesh.proofs.Parity.{remainder-few}
 use Rattle.turns.specs.Arithmetic.{ruleNumber, brokenRule, quarterTurns, formula, isRight, every, right}
 use Rattle.turns.proofs.Arithmetic.{every-one, rule-of-turn, back-reverses}
 
@@ -33,10 +33,11 @@ pub formula-of-turns : (west : ℕ → Bool) (c p : ℕ) → p < 2 → west c �
 formula-of-turns west c p few e g h =
     formula-of-codes (code g) (code h) p (code-few g, code-few h, few) ∙ rule-of-turn west c p e g h
 
--- so with the column's remainder by 2
-pub turn-by-arithmetic : (c : ℕ) (g h : Heading) → formula (code g) (code h) (remainder c) ≡ ruleNumber (turnBreaks turnsWest c g h)
+-- so with the column's remainder by 2, on the second network the other one
+pub turn-by-arithmetic : (network : Network) (c : ℕ) (g h : Heading) →
+    formula (code g) (code h) (remainder network c) ≡ ruleNumber (turnBreaks (turnsWest network) c g h)
 unfolding turnsWest
-turn-by-arithmetic c g h = formula-of-turns turnsWest c (remainder c) (mod-lt c (omega arith)) refl g h
+turn-by-arithmetic network c g h = formula-of-turns (turnsWest network) c (remainder network c) (remainder-few network c) refl g h
 
 -- two quarter turns are a reversal, and no others are
 pub back-is-reversal : (g h : Heading) → eqb (quarterTurns (code g) (code h)) 2 ≡ reverses g h

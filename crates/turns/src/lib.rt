@@ -9,6 +9,7 @@ use mesh::Broken;
 use mesh::Column;
 use mesh::Heading;
 use mesh::Last;
+use mesh::Network;
 use parity::remainder;
 
 // Quarter turns to the left from the hop before to the hop after, by their codes (0 E, 1 N, 2 W, 3 S): 0 straight on, 1 left, 2 back, 3 right.
@@ -49,10 +50,10 @@ fn rule_of(n: u32) -> Broken
 }
 
 // The rule that the turn breaks in this column.
-fn turn_breaks(before: Heading, after: Heading, c: Column) -> Broken
-    ensures { λ x. ⌜ x ≡ turnBreaks turnsWest (c .0) before after ⌝ }
+fn turn_breaks(network: Network, before: Heading, after: Heading, c: Column) -> Broken
+    ensures { λ x. ⌜ x ≡ turnBreaks (turnsWest network) (c .0) before after ⌝ }
 {
-    let rule = broken_rule(code(before), code(after), remainder(c));
+    let rule = broken_rule(code(before), code(after), remainder(network, c));
     rule_of(rule)
 }
 
@@ -74,11 +75,11 @@ pub fn turns_back(l: Last, h: Heading) -> bool
 }
 
 // The rule that the hop breaks after the last one.
-pub fn hop_breaks(l: Last, h: Heading, c: Column) -> Broken
-    ensures { λ x. ⌜ x ≡ hopBreaks turnsWest (c .0) l h ⌝ }
+pub fn hop_breaks(network: Network, l: Last, h: Heading, c: Column) -> Broken
+    ensures { λ x. ⌜ x ≡ hopBreaks (turnsWest network) (c .0) l h ⌝ }
 {
     match l {
         Last::None => return Broken::Neither,
-        Last::Made(g) => return turn_breaks(g, h, c),
+        Last::Made(g) => return turn_breaks(network, g, h, c),
     }
 }

@@ -13,7 +13,7 @@ stays-requires : tie.Need-stays-requires
 stays-requires c κs = search needs
 
 returns : tie.Need-returns
-returns c = leaves _ _ _ (c .before .stays .ensures) (c .if1 .taken)
+returns c = leaves _ _ _ _ (c .before .stays .ensures) (c .if1 .taken)
 
 moved-by-requires : tie.Need-moved-by-requires
 moved-by-requires c κs =
@@ -37,7 +37,7 @@ returns-2 c =
     let at-moved = at-last .before in
     let at-if1 = at-moved .before in
     let straight = sym (at-last .is-last .ensures) ∙ c .before .if2 .taken in
-    enters _ _ _ (at-if1 .before .stays .ensures) (at-if1 .if1 .left) (at-moved .moved-by .ensures ∙ moved-one _ _)
+    enters _ _ _ _ (at-if1 .before .stays .ensures) (at-if1 .if1 .left) (at-moved .moved-by .ensures ∙ moved-one _ _)
     (straight-ahead _ _ straight) (straight-may _ _ _ _ straight) (c .enter .ensures)
 
 turns-back-requires : tie.Need-turns-back-requires
@@ -46,7 +46,7 @@ turns-back-requires c κs = search needs
 returns-3 : tie.Need-returns-3
 returns-3 c =
     let at-if1 = c .before .before .before .before .before in
-    turns-back _ _ _ (at-if1 .before .stays .ensures) (at-if1 .if1 .left) (c .before .turns-back .ensures)
+    turns-back _ _ _ _ (at-if1 .before .stays .ensures) (at-if1 .if1 .left) (c .before .turns-back .ensures)
     (c .if3 .taken)
 
 hop-breaks-requires : tie.Need-hop-breaks-requires
@@ -63,7 +63,7 @@ returns-4 c =
     let at-breaks = c .before .before in
     let at-if3 = at-breaks .before in
     let at-if1 = at-if3 .before .before .before .before .before in
-    breaks-1 _ _ _ (at-if1 .before .stays .ensures) (at-if1 .if1 .left) (at-if3 .before .turns-back .ensures)
+    breaks-1 _ _ _ _ (at-if1 .before .stays .ensures) (at-if1 .if1 .left) (at-if3 .before .turns-back .ensures)
     (at-if3 .if3 .left) (at-breaks .hop-breaks .ensures) (c .enum-told2 .given .1)
 
 enum-told-3 : tie.Need-enum-told-3
@@ -74,7 +74,7 @@ returns-5 c =
     let at-breaks = c .before .before in
     let at-if3 = at-breaks .before in
     let at-if1 = at-if3 .before .before .before .before .before in
-    breaks-2 _ _ _ (at-if1 .before .stays .ensures) (at-if1 .if1 .left) (at-if3 .before .turns-back .ensures)
+    breaks-2 _ _ _ _ (at-if1 .before .stays .ensures) (at-if1 .if1 .left) (at-if3 .before .turns-back .ensures)
     (at-if3 .if3 .left) (at-breaks .hop-breaks .ensures) (c .enum-told3 .given .1)
 
 enter-requires-2 : tie.Need-enter-requires-2
@@ -93,7 +93,7 @@ returns-6 c =
     let at-if3 = at-breaks .before in
     let at-moved = at-if3 .before .before .before .before in
     let at-if1 = at-moved .before in
-    enters _ _ _ (at-if1 .before .stays .ensures) (at-if1 .if1 .left) (at-moved .moved-by .ensures ∙ moved-one _ _)
+    enters _ _ _ _ (at-if1 .before .stays .ensures) (at-if1 .if1 .left) (at-moved .moved-by .ensures ∙ moved-one _ _)
     (sym (at-if3 .before .turns-back .ensures) ∙ at-if3 .if3 .left)
     (sym (at-breaks .hop-breaks .ensures) ∙ at-neither .enum-told .given .1) (c .enter2 .ensures)
 

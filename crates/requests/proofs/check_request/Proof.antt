@@ -15,7 +15,7 @@ enum-known-checked : tie.Need-enum-known-checked
 enum-known-checked c = search needs
 
 returns : tie.Need-returns
-returns c = trip-first _ _ _ (c .before .before .before .check-trip .ensures) (c .before .checked .given .1)
+returns c = trip-first _ _ _ _ (c .before .before .before .check-trip .ensures) (c .before .checked .given .1)
 
 enum-told : tie.Need-enum-told
 enum-told c = search needs
@@ -31,13 +31,13 @@ is-unserved-requires c κs =
 returns-2 : tie.Need-returns-2
 returns-2 c =
     let at-clear = c .before .before in
-    unserved-refused _ _ _ (at-clear .before .before .check-trip .ensures) (at-clear .enum-told .given .1)
+    unserved-refused _ _ _ _ (at-clear .before .before .check-trip .ensures) (at-clear .enum-told .given .1)
     (c .before .is-unserved .ensures) (c .if1 .taken)
 
 returns-3 : tie.Need-returns-3
 returns-3 c =
     let at-clear = c .before .before in
-    unserved-clear _ _ _ (at-clear .before .before .check-trip .ensures) (at-clear .enum-told .given .1)
+    unserved-clear _ _ _ _ (at-clear .before .before .check-trip .ensures) (at-clear .enum-told .given .1)
     (c .before .is-unserved .ensures) (c .if1 .left)
 
 pub check-request-spec : {M : Type 1} → statement M

@@ -2,6 +2,7 @@
 use borrow.Author.Needs.{needs}
 use mathlib.Core.Path.{refl, sym, _∙_}
 use mathlib.Core.List.{[]}
+use Rattle.mesh.specs.declared.Network.the-variants.{First}
 use Rattle.mesh.specs.Mesh.{mesh}
 use Rattle.mesh.specs.Rules.{toward}
 use Rattle.mesh.specs.Hops.{tripOf}
@@ -25,8 +26,8 @@ returns c =
     let at-if1 = c .before .before in
     let entry = at-if1 .before .before .before in
     let nears = sym (at-if1 .before .is-nearing .ensures) ∙ at-if1 .if1 .taken in
-    near-again _ _ _ _ (c .before .toward .ensures (tripOf (mesh 0 0 []) (entry .args .p)) refl) nears
-    (c .nearing .ensures)
+    near-again _ _ _ _ (c .before .toward .ensures (tripOf First (mesh 0 0 []) (entry .args .p)) refl) nears
+    (c .nearing .ensures _)
 
 go-round-requires : tie.Need-go-round-requires
 go-round-requires c κs =

@@ -2,6 +2,7 @@
 use borrow.Author.Needs.{needs}
 use native.Mathlib.Omega.{arith}
 use mathlib.Core.Path.{refl, _≡_}
+use Rattle.mesh.specs.declared.Network.the-variants.{First}
 use Rattle.travel.proofs.Runs.{column-reaches, column-runs, leaves-column}
 use Rattle.travel.proofs.column_leg.Statement.{statement}
 use Rattle.travel.proofs.column_leg.Tie as tie
@@ -15,14 +16,14 @@ distance-requires c κs = search needs
 count-free-requires : tie.Need-count-free-requires
 count-free-requires c κs =
     let pre = c .before .before .before .pre in
-    (pre .0 .here .sized, column-reaches (pre .0) (pre .1) (c .distance .ensures) (c .before .toward .ensures _ refl))
+    (pre .0 .here .sized, column-reaches First (pre .0) (pre .1) (c .distance .ensures) (c .before .toward .ensures _ refl))
 
 returns : tie.Need-returns
 returns c =
     let counted = c .before in
     let pre = counted .before .before .before .before .pre in (
       omega arith,
-      column-runs (pre .0) (pre .1) (counted .before .distance .ensures)
+      λ network. column-runs network (pre .0) (pre .1) (counted .before .distance .ensures)
           (counted .before .before .toward .ensures _ refl) (counted .count-free .ensures),
     )
 
@@ -32,7 +33,7 @@ returns-2 c =
     let pre = counted .before .before .before .before .pre in
     let none : counted .count-free .result ≡ 0 = omega arith in (
       omega arith,
-      leaves-column (pre .0) (pre .1) (counted .before .distance .ensures)
+      λ network. leaves-column network (pre .0) (pre .1) (counted .before .distance .ensures)
           (counted .before .before .toward .ensures _ refl) (pre .2) (rw none at (counted .count-free .ensures)),
     )
 

@@ -22,7 +22,7 @@ column-leg-requires c κs =
     (pre .0, rw off at (pre .1), off)
 
 returns-2 : tie.Need-returns-2
-returns-2 c = search needs
+returns-2 c = let leg = c .column-leg .ensures in (leg .0, leg .1 _)
 
 pub next-leg-spec : {M : Type 1} → statement M
 next-leg-spec =

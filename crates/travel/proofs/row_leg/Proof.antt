@@ -24,7 +24,7 @@ returns-2 : tie.Need-returns-2
 returns-2 c =
     let counted = c .before .before in
     let pre = counted .before .before .before .pre in
-    (omega arith, leaves-row (pre .0) (pre .1) (pre .2) (c .again .ensures) (counted .count-unstopped .ensures .stops (omega arith)))
+    (omega arith, leaves-row _ (pre .0) (pre .1) (pre .2) (c .again .ensures) (counted .count-unstopped .ensures .stops (omega arith)))
 
 pub row-leg-spec : {M : Type 1} → statement M
 row-leg-spec =

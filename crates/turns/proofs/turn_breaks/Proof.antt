@@ -1,9 +1,8 @@
 -- The number of the rule, as the rule. Assumes nothing.
 use borrow.Author.Needs.{needs}
 use mathlib.Core.Path.{_∙_}
-use native.Mathlib.Nat.{mod-lt}
-use native.Mathlib.Omega.{arith}
 use Rattle.mesh.proofs.Headings.{code-few}
+use Rattle.mesh.proofs.Parity.{remainder-few}
 use Rattle.turns.proofs.Arithmetic.{rule-told}
 use Rattle.turns.proofs.turn_breaks.Statement.{statement}
 use Rattle.turns.proofs.turn_breaks.Tie as tie
@@ -20,10 +19,11 @@ remainder-requires c κs = search needs
 broken-rule-requires : tie.Need-broken-rule-requires
 broken-rule-requires c κs =
     let at-column = c .before in
-    let at-after = at-column .before in (
-      rw (at-after .code .ensures) (code-few (at-after .before .args .before)),
-      rw (at-column .code2 .ensures) (code-few (at-after .before .args .after)),
-      rw (c .remainder .ensures) (mod-lt (at-after .before .args .c .0) (omega arith)),
+    let at-after = at-column .before in
+    let x = at-after .before .args in (
+      rw (at-after .code .ensures) (code-few (x .before)),
+      rw (at-column .code2 .ensures) (code-few (x .after)),
+      rw (c .remainder .ensures) (remainder-few (x .network) (x .c .0)),
     )
 
 rule-of-requires : tie.Need-rule-of-requires
@@ -34,7 +34,7 @@ returns c =
     let at-column = c .before .before in
     let at-after = at-column .before in
     c .rule-of .ensures ∙
-    rule-told _ _ _ (at-after .before .code .ensures) (at-after .code2 .ensures) (at-column .remainder .ensures) (c .before .broken-rule .ensures)
+    rule-told _ _ _ _ (at-after .before .code .ensures) (at-after .code2 .ensures) (at-column .remainder .ensures) (c .before .broken-rule .ensures)
 
 pub turn-breaks-spec : {M : Type 1} → statement M
 turn-breaks-spec =

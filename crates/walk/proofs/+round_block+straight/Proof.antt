@@ -3,12 +3,13 @@
 use mathlib.Core.Path.{_≡_, sym, _∙_}
 use mathlib.Core.Bool.{false}
 use mathlib.Core.List.{List}
-use Prim.Native.Nat.{ℕ, _<_, _+_, _*_}
+use Prim.Native.Nat.{ℕ, _<_, _+_, _-_, _*_}
 use native.Mathlib.Omega.{arith}
 use borrow.Author.Tests.{not-true, not-false}
 use borrow.Fn.Kinds.{In}
 use borrow.Fn.PlainCycle.{Measures, is, falls, and}
 use Rattle.mesh.proofs.Bools.{or-none}
+use Rattle.mesh.specs.declared.Network.{Network}
 use Rattle.mesh.specs.declared.Packet.{Packet}
 use Rattle.hops.proofs.is_there.Reads as is-there-reads
 use Rattle.rules.proofs.go_round.Reads as go-round-reads
@@ -16,6 +17,7 @@ use Rattle.rules.specs.Rows.{inItsRow, nearsRow}
 use Rattle.travel.specs.Straight.{goesStraight}
 use Rattle.travel.proofs.is_straight.Reads as is-straight-reads
 use Rattle.travel.proofs.next_leg.Reads as next-leg-reads
+use Rattle.walk.specs.Following.{hopLimit}
 use Rattle.walk.proofs.Following.{follows-there, Along, along-none, round-one, along-few, along-lands, along-leg}
 use Rattle.walk.proofs.round_block.Reads as round-block
 use Rattle.walk.proofs.round_block.Kinds as round-block-kinds
@@ -28,10 +30,10 @@ use Rattle.walk.proofs.+round_block+straight.{statement}
 use Rattle.walk.proofs.+round_block+straight.Tie.{close}
 
 abbrev μ-round-block : Measures 2 round-block-kinds.ps ℕ
-μ-round-block κs a = 2 * a .1 .1 .1 .1 .1 .1 .0
+μ-round-block κs a = 2 * (hopLimit - a .1 .1 .1 .1 .1 .1 .0)
 
 abbrev μ-straight : Measures 2 straight-kinds.ps ℕ
-μ-straight κs a = 2 * a .1 .1 .1 .1 .1 .1 .0 + 1
+μ-straight κs a = 2 * (hopLimit - a .1 .1 .1 .1 .1 .1 .0) + 1
 
 abbrev round-block-at : ℕ → In 2 round-block-kinds.ps
 round-block-at t =
@@ -56,21 +58,21 @@ abbrev straight-callees : ℕ → straight-lts.Claims
 straight-callees t = (is-there-reads.Asked, is-there-reads.Learnt, is-straight-reads.Asked, is-straight-reads.Learnt, round-block-below t, round-block.Post, next-leg-reads.Asked, next-leg-reads.Learnt, advance-reads.Asked, advance-reads.Learnt)
 
 -- round a block: the packet has come to p, and does not travel straight from there
-record Round (columns rows : ℕ) (marks : List ℕ) (p₀ : Packet) (out₀ : List ℕ) (begun limit : ℕ) (p : Packet) (out : List ℕ) (made left : ℕ) : Type 0 where
-  pub along : Along columns rows marks p₀ out₀ begun limit p out made left
+record Round (network : Network) (columns rows : ℕ) (marks : List ℕ) (p₀ : Packet) (out₀ : List ℕ) (begun : ℕ) (p : Packet) (out : List ℕ) (made : ℕ) : Type 0 where
+  pub along : Along network columns rows marks p₀ out₀ begun p out made
   pub off : goesStraight p ≡ false
 
 abbrev round-block-Inv-loop : round-block-lts.InvT-loop
-round-block-Inv-loop columns rows marks out₀ begun limit p₀ made₀ left₀ out p made left = Round columns rows marks p₀ out₀ begun limit p out made left
+round-block-Inv-loop network columns rows marks out₀ begun p₀ made₀ out p made = Round network columns rows marks p₀ out₀ begun p out made
 
 abbrev round-block-μ-loop : round-block-lts.MeasureT-loop
-round-block-μ-loop columns rows marks out₀ begun limit p₀ made₀ left₀ out p made left = left
+round-block-μ-loop network columns rows marks out₀ begun p₀ made₀ out p made = hopLimit - made
 
 abbrev straight-Inv-loop : straight-lts.InvT-loop
-straight-Inv-loop columns rows marks out₀ begun limit p₀ made₀ left₀ out p made left = Along columns rows marks p₀ out₀ begun limit p out made left
+straight-Inv-loop network columns rows marks out₀ begun p₀ made₀ out p made = Along network columns rows marks p₀ out₀ begun p out made
 
 abbrev straight-μ-loop : straight-lts.MeasureT-loop
-straight-μ-loop columns rows marks out₀ begun limit p₀ made₀ left₀ out p made left = left
+straight-μ-loop network columns rows marks out₀ begun p₀ made₀ out p made = hopLimit - made
 
 round-block-loop-holds : (t : ℕ) →
     round-block-lts.Need-loop-holds (round-block-callees t) (round-block-at t) round-block.Post round-block-Inv-loop round-block-μ-loop
@@ -99,14 +101,6 @@ round-block-add-made t c =
     let one = round-one (at-loop .loop .inv .off) (at-round .go-round .ensures) in
     omega (arith, along-few (at-loop .loop .inv .along) one)
 
-round-block-sub-left : (t : ℕ) →
-    round-block-lts.Need-sub-left (round-block-callees t) (round-block-at t) round-block.Post round-block-Inv-loop round-block-μ-loop
-round-block-sub-left t c =
-    let at-round = c .before .before .before .before in
-    let at-loop = at-round .before in
-    let one = round-one (at-loop .loop .inv .off) (at-round .go-round .ensures) in
-    omega (arith, along-few (at-loop .loop .inv .along) one)
-
 round-block-is-straight-requires : (t : ℕ) →
     round-block-lts.Need-is-straight-requires (round-block-callees t) (round-block-at t) round-block.Post round-block-Inv-loop round-block-μ-loop
 round-block-is-straight-requires t c κs = tt
@@ -120,7 +114,7 @@ round-block-straight-requires t c κs =
     let one = round-one (at-loop .loop .inv .off) (at-round .go-round .ensures) in
     let along = at-loop .loop .inv .along in
     let begun = at-loop .before .before .before .pre .0 in
-    (omega (arith, begun, along .fell, along-few along one), along-leg along one (omega arith) (moved .advance .ensures) .going)
+    (omega (arith, begun, along .grew, along-few along one), along-leg along one (omega arith) (moved .advance .ensures) .going)
 
 round-block-same-length : (t : ℕ) →
     round-block-lts.Need-same-length (round-block-callees t) (round-block-at t) round-block.Post round-block-Inv-loop round-block-μ-loop
@@ -131,7 +125,7 @@ round-block-same-length t c =
     let at-loop = at-round .before in
     let one = round-one (at-loop .loop .inv .off) (at-round .go-round .ensures) in
     let leg = along-leg (at-loop .loop .inv .along) one (omega arith) (moved .advance .ensures) in
-    handed .straight .kept .1 .1 .1 .1 .0 ∙ leg .size
+    handed .straight .kept .1 .1 .1 .1 .1 .0 ∙ leg .size
 
 round-block-returns : (t : ℕ) →
     round-block-lts.Need-returns (round-block-callees t) (round-block-at t) round-block.Post round-block-Inv-loop round-block-μ-loop
@@ -179,14 +173,14 @@ straight-round-block-requires : (t : ℕ) →
     straight-lts.Need-round-block-requires (straight-callees t) (straight-at t) straight.Post straight-Inv-loop straight-μ-loop
 straight-round-block-requires t c κs =
     let at-loop = c .before .before .before .before .before in (
-      omega (arith, c .before .before .before .before .before .before .before .before .pre .0, at-loop .loop .inv .fell),
+      omega (arith, c .before .before .before .before .before .before .before .before .pre .0, at-loop .loop .inv .grew),
       (at-loop .loop .inv .going, sym (c .before .before .is-straight .ensures) ∙ not-true _ (c .before .if2 .taken)),
     )
 
 straight-same-length : (t : ℕ) → straight-lts.Need-same-length (straight-callees t) (straight-at t) straight.Post straight-Inv-loop straight-μ-loop
 straight-same-length t c =
     let at-loop = c .before .before .before .before .before .before .before .before in
-    c .before .before .round-block .kept .1 .1 .1 .1 .0 ∙ at-loop .loop .inv .size
+    c .before .before .round-block .kept .1 .1 .1 .1 .1 .0 ∙ at-loop .loop .inv .size
 
 straight-returns : (t : ℕ) → straight-lts.Need-returns (straight-callees t) (straight-at t) straight.Post straight-Inv-loop straight-μ-loop
 straight-returns t c =
@@ -213,13 +207,6 @@ straight-advance-requires t c κs =
 
 straight-add-made : (t : ℕ) → straight-lts.Need-add-made (straight-callees t) (straight-at t) straight.Post straight-Inv-loop straight-μ-loop
 straight-add-made t c =
-    let at-leg = c .before .before .before .before in
-    let at-loop = at-leg .before .before .before .before .before in
-    let leg = at-leg .next-leg .ensures in
-    omega (arith, along-few (at-loop .loop .inv) (leg .1))
-
-straight-sub-left : (t : ℕ) → straight-lts.Need-sub-left (straight-callees t) (straight-at t) straight.Post straight-Inv-loop straight-μ-loop
-straight-sub-left t c =
     let at-leg = c .before .before .before .before in
     let at-loop = at-leg .before .before .before .before .before in
     let leg = at-leg .next-leg .ensures in
@@ -258,7 +245,6 @@ pub +round-block+straight-spec : {M : Type 1} → statement M
     (round-block-go-round-requires t)
     (round-block-advance-requires t)
     (round-block-add-made t)
-    (round-block-sub-left t)
     (round-block-is-straight-requires t)
     (round-block-straight-requires t)
     (round-block-same-length t)
@@ -279,7 +265,6 @@ pub +round-block+straight-spec : {M : Type 1} → statement M
     (straight-next-leg-requires t)
     (straight-advance-requires t)
     (straight-add-made t)
-    (straight-sub-left t)
     (straight-loop-less t)
     (straight-loop-again t)
     (straight-same-length-2 t)
