@@ -15,6 +15,7 @@ use Rattle.mesh.specs.declared.Mistake.{Mistake}
 use Rattle.mesh.specs.declared.Mistake.the-variants.{NoLetter, NotArrived}
 use Rattle.mesh.specs.declared.Tested.{Tested}
 use Rattle.mesh.specs.declared.Tested.the-variants.{Lawful, Wrong}
+use Rattle.mesh.specs.declared.Network.{Network}
 use Rattle.mesh.specs.declared.Packet.{Packet}
 use Rattle.mesh.specs.Mesh.{Mesh}
 use Rattle.mesh.specs.Headings.{named}
@@ -38,58 +39,58 @@ lawful-stays t p h e =
     [ inl s ↦ s | inr s ↦ absurd (let z = rw s at e in omega arith) ]
 
 -- the letters before index i of n are lawful and have brought the packet to p
-pub record Judging (w : Mesh) (packet p : Packet) (xs : List ℕ) (n i : ℕ) : Type 0 where
+pub record Judging (network : Network) (w : Mesh) (packet p : Packet) (xs : List ℕ) (n i : ℕ) : Type 0 where
   pub within : i ≤ n
   pub all : n ≡ length xs
   pub on-mesh : OnMesh (w .columns) (w .rows) (w .map) (p .place .row .0) (p .place .column .0)
   pub same : p .destination ≡ packet .destination
-  pub rest : judge (tripOf w packet) (at packet) 0 xs ≡ judge (tripOf w p) (at p) i (drop i xs)
+  pub rest : judge (tripOf network w packet) (at packet) 0 xs ≡ judge (tripOf network w p) (at p) i (drop i xs)
 
-module _ (w : Mesh) (packet : Packet) (xs : List ℕ) where
+module _ (network : Network) (w : Mesh) (packet : Packet) (xs : List ℕ) where
   pub judging-start : OnMesh (w .columns) (w .rows) (w .map) (packet .place .row .0) (packet .place .column .0) →
-      Judging w packet packet xs (length xs) 0
+      Judging network w packet packet xs (length xs) 0
   judging-start on = record { within = omega arith; all = refl; on-mesh = on; same = refl; rest = refl }
 
-  module _ {p : Packet} {n i : ℕ} (s : Judging w packet p xs n i) where
+  module _ {p : Packet} {n i : ℕ} (s : Judging network w packet p xs n i) where
     module _ (h : i < n) where
       rest-letter : {l : Letter} → l ≡ named (getD xs i 0) →
-          judge (tripOf w packet) (at packet) 0 xs ≡ unless (letterMistake (tripOf w p) (at p) l) i (judge (tripOf w p) (follow l (at p)) (suc i) (drop (suc i) xs))
+          judge (tripOf network w packet) (at packet) 0 xs ≡ unless (letterMistake (tripOf network w p) (at p) l) i (judge (tripOf network w p) (follow l (at p)) (suc i) (drop (suc i) xs))
       unfolding judge
       rest-letter e = let within : i < length xs = omega (arith, s .all) in s .rest ∙ rw (drop-cons xs i 0 within, e)
 
       pub judging-other : {l : Letter} → l ≡ named (getD xs i 0) → l ≡ Other →
-          failed (mistakeNumber NoLetter) i ≡ judge (tripOf w packet) (at packet) 0 xs
+          failed (mistakeNumber NoLetter) i ≡ judge (tripOf network w packet) (at packet) 0 xs
       unfolding letterMistake unless
       judging-other e o = sym (rest-letter e ∙ rw o)
 
-      module _ {l : Letter} {hop : Heading} {t : Tested} (e : l ≡ named (getD xs i 0)) (o : l ≡ Hop hop) (x : Tests w p hop t) where
-        pub judging-wrong : {m : Mistake} → t ≡ Wrong m → failed (mistakeNumber m) i ≡ judge (tripOf w packet) (at packet) 0 xs
+      module _ {l : Letter} {hop : Heading} {t : Tested} (e : l ≡ named (getD xs i 0)) (o : l ≡ Hop hop) (x : Tests network w p hop t) where
+        pub judging-wrong : {m : Mistake} → t ≡ Wrong m → failed (mistakeNumber m) i ≡ judge (tripOf network w packet) (at packet) 0 xs
         unfolding unless
         judging-wrong {m} q =
             sym (rest-letter e ∙ rw (o, ← x .told, q, mistake-some m))
 
-        pub judging-on : {after : Packet} → t ≡ Lawful after → Judging w packet after xs n (i + 1)
+        pub judging-on : {after : Packet} → t ≡ Lawful after → Judging network w packet after xs n (i + 1)
         unfolding unless follow moved
         judging-on q =
-            let none : letterMistake (tripOf w p) (at p) (Hop hop) ≡ 0 = sym (x .told) ∙ rw q in
+            let none : letterMistake (tripOf network w p) (at p) (Hop hop) ≡ 0 = sym (x .told) ∙ rw q in
             rw (x .onward q)
             (record {
               within = omega arith;
               all = s .all;
-              on-mesh = stays-on (s .on-mesh) hop (lawful-stays (tripOf w p) (at p) hop none);
+              on-mesh = stays-on (s .on-mesh) hop (lawful-stays (tripOf network w p) (at p) hop none);
               same = s .same;
               rest = rest-letter e ∙ rw (o, none, add-one);
             })
 
     module _ (h : n ≤ i) where
-      rest-none : judge (tripOf w packet) (at packet) 0 xs ≡ cond (isThere p) (passed n) (failed 16 n)
+      rest-none : judge (tripOf network w packet) (at packet) 0 xs ≡ cond (isThere p) (passed n) (failed 16 n)
       unfolding judge arrived atDestination isThere
       rest-none =
           let end : i ≡ n = omega (arith, s .within) in
           s .rest ∙ rw (drop-of-length-le xs {i = i} (omega (arith, s .all)), end)
 
-      pub judging-passed : isThere p ≡ true → passed n ≡ judge (tripOf w packet) (at packet) 0 xs
+      pub judging-passed : isThere p ≡ true → passed n ≡ judge (tripOf network w packet) (at packet) 0 xs
       judging-passed t = sym (rest-none ∙ rw t)
 
-      pub judging-short : isThere p ≡ false → failed (mistakeNumber NotArrived) n ≡ judge (tripOf w packet) (at packet) 0 xs
+      pub judging-short : isThere p ≡ false → failed (mistakeNumber NotArrived) n ≡ judge (tripOf network w packet) (at packet) 0 xs
       judging-short t = sym (rest-none ∙ rw t)

@@ -7,6 +7,7 @@ use Rattle.mesh.specs.declared.Refusal.{Refusal}
 use Rattle.mesh.specs.declared.Checked.{Checked}
 use Rattle.mesh.specs.declared.Checked.the-variants as checks
 use Rattle.mesh.specs.declared.Judged.the-variants.{Refused}
+use Rattle.mesh.specs.declared.Network.{Network}
 use Rattle.mesh.specs.declared.Place.{Place}
 use Rattle.mesh.specs.Mesh.{Mesh, mesh}
 use Rattle.mesh.specs.Tests.{first}
@@ -26,23 +27,23 @@ unless-refused : (why : Refusal) (rest : Verdict) → judgedVerdict (Refused why
 unfolding unless
 unless-refused why rest = rw (number-some why)
 
-module _ (w : Mesh) (s d : Place) (xs : List ℕ) {x : Checked} (told : checkedNumber x ≡ first (placeTests w s d)) where
-  pub places-refused : {why : Refusal} → x ≡ checks.Refused why → judgedVerdict (Refused why) ≡ judgementOn w s d xs
+module _ (network : Network) (w : Mesh) (s d : Place) (xs : List ℕ) {x : Checked} (told : checkedNumber x ≡ first (placeTests w s d)) where
+  pub places-refused : {why : Refusal} → x ≡ checks.Refused why → judgedVerdict (Refused why) ≡ judgementOn network w s d xs
   unfolding judgementOn
   places-refused {why} e = let t = rw e at told in rw (← t) (unless-refused why _)
 
-  pub letters-judged : x ≡ checks.Clear → judge (tripOn w d) (fresh s) 0 xs ≡ judgementOn w s d xs
+  pub letters-judged : x ≡ checks.Clear → judge (tripOn network w d) (fresh s) 0 xs ≡ judgementOn network w s d xs
   unfolding judgementOn judgeFrom unless
   letters-judged e = rw (told-clear (placeTests w s d) e told)
 
-module _ (columns rows : ℕ) (map : List ℕ) (s d : Place) (xs : List ℕ) {x : Checked} {marks : List ℕ} (m : MarksMap columns rows map x marks) where
-  pub map-refused : {why : Refusal} → x ≡ checks.Refused why → judgedVerdict (Refused why) ≡ judgement columns rows map s d xs
+module _ (network : Network) (columns rows : ℕ) (map : List ℕ) (s d : Place) (xs : List ℕ) {x : Checked} {marks : List ℕ} (m : MarksMap columns rows map x marks) where
+  pub map-refused : {why : Refusal} → x ≡ checks.Refused why → judgedVerdict (Refused why) ≡ judgement network columns rows map s d xs
   unfolding judgement
   map-refused {why} e =
       let told = marks-refused columns rows map m (placeTests (marked (mesh columns rows map)) s d) e in
       rw told (unless-refused why _)
 
-  pub marked-judged : x ≡ checks.Clear → judgementOn (mesh columns rows (take (length map) marks)) s d xs ≡ judgement columns rows map s d xs
+  pub marked-judged : x ≡ checks.Clear → judgementOn network (mesh columns rows (take (length map) marks)) s d xs ≡ judgement network columns rows map s d xs
   unfolding judgement judgementOn
   marked-judged e =
       rw (m .marks e, marks-next columns rows map m e (placeTests (marked (mesh columns rows map)) s d))

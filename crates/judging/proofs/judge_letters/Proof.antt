@@ -9,13 +9,13 @@ use Rattle.judging.proofs.judge_letters.Statement.{statement}
 use Rattle.judging.proofs.judge_letters.Tie as tie
 
 abbrev Inv-loop : tie.InvT-loop
-Inv-loop columns rows marks letters n p₀ i₀ p i = Judging (mesh columns rows marks) p₀ p letters n i
+Inv-loop network columns rows marks letters n p₀ i₀ p i = Judging network (mesh columns rows marks) p₀ p letters n i
 
 abbrev μ-loop : tie.MeasureT-loop
-μ-loop columns rows marks letters n p₀ i₀ p i = n - i
+μ-loop network columns rows marks letters n p₀ i₀ p i = n - i
 
 loop-holds : tie.Need-loop-holds Inv-loop μ-loop
-loop-holds c = judging-start _ _ _ (c .before .before .pre)
+loop-holds c = judging-start _ _ _ _ (c .before .before .pre)
 
 shared-slice-read-read-letter : tie.Need-shared-slice-read-read-letter Inv-loop μ-loop
 shared-slice-read-read-letter c = omega arith
@@ -30,7 +30,7 @@ returns : tie.Need-returns Inv-loop μ-loop
 returns c =
     let at-letter = c .before .before in
     let judged = at-letter .before .before .before .loop .inv in
-    judging-other _ _ _ judged (omega arith) (at-letter .read-letter .ensures) (c .enum-told .given .1)
+    judging-other _ _ _ _ judged (omega arith) (at-letter .read-letter .ensures) (c .enum-told .given .1)
 
 enum-known-named : tie.Need-enum-known-named Inv-loop μ-loop
 enum-known-named c = search needs
@@ -49,7 +49,7 @@ returns-2 c =
     let at-named = at-hop .before .before in
     let at-letter = at-named .before .before in
     let judged = at-letter .before .before .before .loop .inv in
-    judging-wrong _ _ _ judged (omega arith) (at-letter .read-letter .ensures) (at-named .named .given .1)
+    judging-wrong _ _ _ _ judged (omega arith) (at-letter .read-letter .ensures) (at-named .named .given .1)
     (at-hop .test-hop .ensures) (c .before .tested .given .1)
 
 enum-known-tested-2 : tie.Need-enum-known-tested-2 Inv-loop μ-loop
@@ -58,7 +58,7 @@ enum-known-tested-2 c = search needs
 add-i : tie.Need-add-i Inv-loop μ-loop
 add-i c =
     let at-loop = c .before .before .before .before .before .before .before .before .before .before in
-    omega (arith, at-loop .before .before .before .good .1 .1 .1 .1 .0)
+    omega (arith, at-loop .before .before .before .good .1 .1 .1 .1 .1 .0)
 
 loop-less : tie.Need-loop-less Inv-loop μ-loop
 loop-less c = omega arith
@@ -69,7 +69,7 @@ loop-again c =
     let at-named = at-hop .before .before in
     let at-letter = at-named .before .before in
     let judged = at-letter .before .before .before .loop .inv in
-    judging-on _ _ _ judged (omega arith) (at-letter .read-letter .ensures) (at-named .named .given .1)
+    judging-on _ _ _ _ judged (omega arith) (at-letter .read-letter .ensures) (at-named .named .given .1)
     (at-hop .test-hop .ensures) (c .before .tested2 .given .1)
 
 is-there-requires : tie.Need-is-there-requires Inv-loop μ-loop
@@ -77,12 +77,12 @@ is-there-requires c κs = tt
 
 returns-3 : tie.Need-returns-3 Inv-loop μ-loop
 returns-3 c =
-    judging-passed _ _ _ (c .before .before .before .loop .inv) (omega arith)
+    judging-passed _ _ _ _ (c .before .before .before .loop .inv) (omega arith)
     (sym (c .before .is-there .ensures) ∙ c .if1 .taken)
 
 returns-4 : tie.Need-returns-4 Inv-loop μ-loop
 returns-4 c =
-    judging-short _ _ _ (c .before .before .before .loop .inv) (omega arith)
+    judging-short _ _ _ _ (c .before .before .before .loop .inv) (omega arith)
     (sym (c .before .is-there .ensures) ∙ c .if1 .left)
 
 pub judge-letters-spec : {M : Type 1} → statement M

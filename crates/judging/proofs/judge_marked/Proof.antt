@@ -15,7 +15,7 @@ enum-known-checked : tie.Need-enum-known-checked
 enum-known-checked c = search needs
 
 returns : tie.Need-returns
-returns c = places-refused _ _ _ _ (c .before .before .before .check-places .ensures) (c .before .checked .given .1)
+returns c = places-refused _ _ _ _ _ (c .before .before .before .check-places .ensures) (c .before .checked .given .1)
 
 enum-told : tie.Need-enum-told
 enum-told c = search needs
@@ -30,7 +30,7 @@ judge-letters-requires c κs =
 returns-2 : tie.Need-returns-2
 returns-2 c =
     let at-clear = c .before in
-    c .judge-letters .ensures ∙ letters-judged _ _ _ _ (at-clear .before .before .check-places .ensures) (at-clear .enum-told .given .1)
+    c .judge-letters .ensures ∙ letters-judged _ _ _ _ _ (at-clear .before .before .check-places .ensures) (at-clear .enum-told .given .1)
 
 pub judge-marked-spec : {M : Type 1} → statement M
 judge-marked-spec =

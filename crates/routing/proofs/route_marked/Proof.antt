@@ -15,7 +15,7 @@ enum-known-checked : tie.Need-enum-known-checked
 enum-known-checked c = search needs
 
 returns : tie.Need-returns
-returns c = request-refused _ _ _ _ (c .before .checked .given .1) (c .before .before .before .check-request .ensures)
+returns c = request-refused _ _ _ _ _ (c .before .checked .given .1) (c .before .before .before .check-request .ensures)
 
 enum-told : tie.Need-enum-told
 enum-told c = search needs
@@ -25,7 +25,7 @@ has-room-requires c κs =
     let at-check = c .before .before in
     let marks = at-check .before .before .before .pre in
     let clear = told-clear _ (c .enum-told .given .1) (at-check .check-request .ensures) in
-    starts _ _ _ _ _ marks (request _ _ _ clear)
+    starts _ _ _ _ _ _ marks (request _ _ _ clear)
 
 returns-2 : tie.Need-returns-2
 returns-2 c =
@@ -33,7 +33,7 @@ returns-2 c =
     let at-check = at-clear .before .before in
     let marks = at-check .before .before .before .pre in
     let clear = told-clear _ (at-clear .enum-told .given .1) (at-check .check-request .ensures) in
-    room-refused _ _ _ _ clear (rest-hops _ _ _ _ _ marks (request _ _ _ clear)) (sym (c .before .has-room .ensures) ∙ not-true _ (c .if1 .taken))
+    room-refused _ _ _ _ _ clear (rest-hops _ _ _ _ _ _ marks (request _ _ _ clear)) (sym (c .before .has-room .ensures) ∙ not-true _ (c .if1 .taken))
 
 straight-requires : tie.Need-straight-requires
 straight-requires c κs =
@@ -41,7 +41,7 @@ straight-requires c κs =
     let at-check = at-clear .before .before in
     let marks = at-check .before .before .before .pre in
     let clear = told-clear _ (at-clear .enum-told .given .1) (at-check .check-request .ensures) in
-    starts _ _ _ _ _ marks (request _ _ _ clear)
+    starts _ _ _ _ _ _ marks (request _ _ _ clear)
 
 same-length : tie.Need-same-length
 same-length c = search needs
@@ -55,7 +55,7 @@ returns-3 c =
     let marks = at-check .before .before .before .pre in
     let clear = told-clear _ (at-clear .enum-told .given .1) (at-check .check-request .ensures) in
     let fits = sym (past-room .before .has-room .ensures) ∙ not-false _ (past-room .if1 .left) in
-    routed _ _ _ _ clear (rest-hops _ _ _ _ _ marks (request _ _ _ clear)) fits (walked .straight .ensures .counts)
+    routed _ _ _ _ _ clear (rest-hops _ _ _ _ _ _ marks (request _ _ _ clear)) fits (walked .straight .ensures .counts)
     (walked .straight .ensures .writes)
 
 pub route-marked-spec : {M : Type 1} → statement M

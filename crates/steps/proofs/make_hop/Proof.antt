@@ -17,7 +17,7 @@ returns : tie.Need-returns
 returns c =
     let tested = c .before .before .before in
     let (_, away) = tested .before .before .before .pre in
-    moves-hop _ _ away (tested .before .hop .ensures) (tested .test-hop .ensures) (c .before .tested .given .1)
+    moves-hop _ _ _ away (tested .before .hop .ensures) (tested .test-hop .ensures) (c .before .tested .given .1)
 
 enum-told : tie.Need-enum-told
 enum-told c = search needs
@@ -26,7 +26,7 @@ returns-2 : tie.Need-returns-2
 returns-2 c =
     let tested = c .before .before in
     let asked = tested .before .before .before .pre in
-    moves-unlawful _ _ (asked .1) (tested .before .hop .ensures) (tested .test-hop .ensures) (c .enum-told .given .1)
+    moves-unlawful _ _ _ (asked .1) (tested .before .hop .ensures) (tested .test-hop .ensures) (c .enum-told .given .1)
 
 pub make-hop-spec : {M : Type 1} → statement M
 make-hop-spec =

@@ -16,7 +16,7 @@ enum-known-checked : tie.Need-enum-known-checked
 enum-known-checked c = search needs
 
 returns : tie.Need-returns
-returns c = trip-refused _ _ (c .before .before .before .check-trip .ensures) (c .before .checked .given .1)
+returns c = trip-refused _ _ _ (c .before .before .before .check-trip .ensures) (c .before .checked .given .1)
 
 enum-told : tie.Need-enum-told
 enum-told c = search needs
@@ -28,7 +28,7 @@ returns-2 : tie.Need-returns-2
 returns-2 c =
     let at-clear = c .before .before in
     let clear = told-clear _ (at-clear .enum-told .given .1) (at-clear .before .before .check-trip .ensures) in
-    moves-arrived _ _ clear (sym (c .before .is-there .ensures) ∙ c .if1 .taken)
+    moves-arrived _ _ _ clear (sym (c .before .is-there .ensures) ∙ c .if1 .taken)
 
 make-hop-requires : tie.Need-make-hop-requires
 unfolding tripTests
@@ -43,7 +43,7 @@ returns-3 : tie.Need-returns-3
 returns-3 c =
     let at-clear = c .before .before .before in
     let clear = told-clear _ (at-clear .enum-told .given .1) (at-clear .before .before .check-trip .ensures) in
-    moves-next _ _ clear (c .make-hop .ensures)
+    moves-next _ _ _ clear (c .make-hop .ensures)
 
 pub step-marked-spec : {M : Type 1} → statement M
 step-marked-spec =
