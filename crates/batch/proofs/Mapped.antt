@@ -9,6 +9,7 @@ use lib.ListN.{length, take}
 use Rattle.mesh.specs.declared.Refusal.{Refusal}
 use Rattle.mesh.specs.declared.Checked.{Checked}
 use Rattle.mesh.specs.declared.Checked.the-variants as checks
+use Rattle.mesh.specs.declared.Network.{Network}
 use Rattle.mesh.specs.Mesh.{mesh}
 use Rattle.mesh.specs.Tests.{Test, _gives_, first}
 use Rattle.mesh.specs.Numbers.{answer, written}
@@ -26,11 +27,11 @@ use Rattle.marking.proofs.Marks.{marks-refused, marks-next}
 use Rattle.sends.specs.Sends.{routeCallOn}
 use Rattle.batch.specs.Marked.{RoutesSends}
 
-module _ (columns rows : ℕ) (map sends answers out : List ℕ) {x : Checked} {marks : List ℕ} (m : MarksMap columns rows map x marks) where
+module _ (network : Network) (columns rows : ℕ) (map sends answers out : List ℕ) {x : Checked} {marks : List ℕ} (m : MarksMap columns rows map x marks) where
   abbrev list : List Test
   list = (uneven sends || ltb (length answers) (length (sendsOf sends))) gives 18 ∷ []
 
-  pub map-refused : {why : Refusal} → x ≡ checks.Refused why → RoutesBatch columns rows map sends answers out (Refused why) answers out
+  pub map-refused : {why : Refusal} → x ≡ checks.Refused why → RoutesBatch network columns rows map sends answers out (Refused why) answers out
   unfolding batchRefusal
   map-refused {why} e =
       let told = marks-refused columns rows map m list e in
@@ -45,29 +46,29 @@ module _ (columns rows : ℕ) (map sends answers out : List ℕ) {x : Checked} {
     unfolding batchRefusal first
     only-list = marks-next columns rows map m e list ∙ rw (sends-length sends)
 
-    not-sends : batchRefusal columns rows map sends answers ≡ 18 → RoutesBatch columns rows map sends answers out NotSends answers out
+    not-sends : batchRefusal columns rows map sends answers ≡ 18 → RoutesBatch network columns rows map sends answers out NotSends answers out
     unfolding answer written
     not-sends told = record { returns = rw told; enters = rw told; writes = rw told }
 
-    pub uneven-refused : uneven sends ≡ true → RoutesBatch columns rows map sends answers out NotSends answers out
+    pub uneven-refused : uneven sends ≡ true → RoutesBatch network columns rows map sends answers out NotSends answers out
     uneven-refused h = not-sends (only-list ∙ rw h)
 
-    pub short-refused : uneven sends ≡ false → ltb (length answers) (length sends / 4) ≡ true → RoutesBatch columns rows map sends answers out NotSends answers out
+    pub short-refused : uneven sends ≡ false → ltb (length answers) (length sends / 4) ≡ true → RoutesBatch network columns rows map sends answers out NotSends answers out
     short-refused h short = not-sends (only-list ∙ rw (h, short))
 
     -- on the map's marking each call does what Route does on the map
-    same-call : (y : Send) (free : List ℕ) → routeCall columns rows map y free ≡ routeCallOn (marked (mesh columns rows map)) y free
+    same-call : (y : Send) (free : List ℕ) → routeCall network columns rows map y free ≡ routeCallOn network (marked (mesh columns rows map)) y free
     unfolding routeCall routeCallOn routeRefusal
-    same-call y free = rw (marks-next columns rows map m e (sendTests (marked (mesh columns rows map)) (y .source) (y .destination) free))
+    same-call y free = rw (marks-next columns rows map m e (sendTests network (marked (mesh columns rows map)) (y .source) (y .destination) free))
 
     pub marked-batch : {n : ℕ} {answers′ out′ : List ℕ} → uneven sends ≡ false → ltb (length answers) (length sends / 4) ≡ false →
-        RoutesSends (routeCallOn (mesh columns rows (take (length map) marks))) sends answers out n answers′ out′ →
-        RoutesBatch columns rows map sends answers out (Letters n) answers′ out′
+        RoutesSends (routeCallOn network (mesh columns rows (take (length map) marks))) sends answers out n answers′ out′ →
+        RoutesBatch network columns rows map sends answers out (Letters n) answers′ out′
     unfolding answer written
     marked-batch h enough r =
         let r′ = rw (m .marks e) at r in
         let none : batchRefusal columns rows map sends answers ≡ 0 = only-list ∙ rw (h, enough) in
-        let same = calls-agree (routeCall columns rows map) (routeCallOn (marked (mesh columns rows map))) same-call (sendsOf sends) out in
+        let same = calls-agree (routeCall network columns rows map) (routeCallOn network (marked (mesh columns rows map))) same-call (sendsOf sends) out in
         record {
           returns = rw (none, same, r′ .counts);
           enters = rw (none, same) (r′ .enters);

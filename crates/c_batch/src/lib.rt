@@ -6,6 +6,9 @@ ghost use Rattle.numbers.specs.Returned.{putReturned};
 ghost use Rattle.c_batch.specs.Numbers.{RoutesBatchInNumbers};
 use batch::route_batch;
 use buffers::put_first;
+use numbers::NO_REQUEST;
+use numbers::is_network;
+use numbers::network_of;
 use numbers::refusal_number;
 use theory_batch::Batched;
 
@@ -33,6 +36,7 @@ fn put_letters(answer: Batched, letters: &mut [u64])
 
 #[no_mangle]
 pub extern "C" fn pinduguil_route_batch(
+    network: u32,
     columns: u32,
     rows: u32,
     map: &[u8],
@@ -41,9 +45,12 @@ pub extern "C" fn pinduguil_route_batch(
     out: &mut [u8],
     letters: &mut [u64],
 ) -> u32
-    ensures { λ x. ⌜ RoutesBatchInNumbers columns rows (now (map .entry)) (now (sends .entry)) (now (answers .entry)) (now (out .entry)) (now (letters .entry)) x (now (answers .exit)) (now (out .exit)) (now (letters .exit)) ⌝ }
+    ensures { λ x. ⌜ RoutesBatchInNumbers network columns rows (now (map .entry)) (now (sends .entry)) (now (answers .entry)) (now (out .entry)) (now (letters .entry)) x (now (answers .exit)) (now (out .exit)) (now (letters .exit)) ⌝ }
 {
-    let answer = route_batch(columns, rows, map, sends, answers, out);
+    if !is_network(network) {
+        return NO_REQUEST;
+    }
+    let answer = route_batch(network_of(network), columns, rows, map, sends, answers, out);
     put_letters(answer, letters);
     batched_code(answer)
 }

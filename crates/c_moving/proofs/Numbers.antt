@@ -7,7 +7,9 @@ use native.Mathlib.Omega.{arith}
 use lib.ListN.{length, set, getD}
 use borrow.Author.Tests.{eqb-true}
 use Rattle.mesh.specs.declared.Moved.{Moved}
+use Rattle.mesh.specs.declared.Network.{Network}
 use Rattle.mesh.specs.declared.Packet.{Packet}
+use Rattle.mesh.specs.Numbers.{isNetwork, networkOf, noRequest}
 use Rattle.mesh.specs.Moving.{movedTold, toldCode, MovesOn}
 use Rattle.mesh.proofs.Bools.{and-both}
 use Rattle.c_moving.specs.Numbers.{isRecord, packetOf, numbersOf, MovesInNumbers}
@@ -29,10 +31,16 @@ five (u ∷ v ∷ w ∷ x ∷ y ∷ z ∷ zs) h = absurd (omega arith)
 pub filled : (xs : List ℕ) (a b c d e : ℕ) → length xs ≡ 5 → set (set (set (set (set xs 0 a) 1 b) 2 c) 3 d) 4 e ≡ a ∷ b ∷ c ∷ d ∷ e ∷ []
 filled xs a b c d e h = ap (λ ys. set (set (set (set (set ys 0 a) 1 b) 2 c) 3 d) 4 e) (sym (five xs h))
 
-pub moves : {columns rows x : ℕ} {map xs after : List ℕ} {p q : Packet} {m : Moved} → isRecord xs ≡ true → p ≡ packetOf xs →
-    MovesOn columns rows map p m q → after ≡ numbersOf q → x ≡ toldCode (movedTold m) → MovesInNumbers columns rows map xs x after
-moves t ep m ea e =
-    record { answers = rw (t, ← ep) (e ∙ ap toldCode (m .answers)); leaves = rw (t, ← ep) (ea ∙ ap numbersOf (m .leaves)) }
+module _ {network columns rows : ℕ} {map xs : List ℕ} where
+  -- the network that the operation is given is that of the call, and the record is of its numbers
+  pub moves : {x : ℕ} {after : List ℕ} {n : Network} {p q : Packet} {m : Moved} → isNetwork network ≡ true → n ≡ networkOf network →
+      isRecord xs ≡ true → p ≡ packetOf xs → MovesOn n columns rows map p m q → after ≡ numbersOf q → x ≡ toldCode (movedTold m) →
+      MovesInNumbers network columns rows map xs x after
+  moves t en u ep m ea e =
+      record { answers = rw (t, u, ← en, ← ep) (e ∙ ap toldCode (m .answers)); leaves = rw (t, u, ← en, ← ep) (ea ∙ ap numbersOf (m .leaves)) }
 
-pub no-record : {columns rows : ℕ} {map xs : List ℕ} → isRecord xs ≡ false → MovesInNumbers columns rows map xs 65536 xs
-no-record f = record { answers = rw f refl; leaves = rw f refl }
+  pub no-network : isNetwork network ≡ false → MovesInNumbers network columns rows map xs noRequest xs
+  no-network f = record { answers = rw f refl; leaves = rw f refl }
+
+  pub no-record : isNetwork network ≡ true → isRecord xs ≡ false → MovesInNumbers network columns rows map xs noRequest xs
+  no-record t f = record { answers = rw (t, f) refl; leaves = rw (t, f) refl }

@@ -6,10 +6,10 @@ use Prim.Native.Nat.{ℕ}
 use lib.Dec.{ltb, eqb}
 use lib.ListN.{length, getD}
 use Rattle.mesh.specs.declared.Packet.{Packet}
-use Rattle.mesh.specs.Mesh.{mesh, place}
+use Rattle.mesh.specs.Mesh.{place}
 use Rattle.mesh.specs.Headings.{lastOf, lastNumber}
-use Rattle.mesh.specs.Rounds.{marked}
-use Rattle.mesh.specs.Moving.{toldCode, moveRefusal, told, recordAfter}
+use Rattle.mesh.specs.Numbers.{isNetwork, networkOf, noRequest}
+use Rattle.mesh.specs.Moving.{toldCode, moveAnswer, moveRecord}
 
 -- five numbers, with a last hop in the third place
 unfoldable pub isRecord : List ℕ → Bool
@@ -25,7 +25,7 @@ numbersOf p =
     p .place .row .0
     ∷ p .place .column .0 ∷ lastNumber (p .last) ∷ p .destination .row .0 ∷ p .destination .column .0 ∷ []
 
--- its promise; x is 65,536 itself, and nothing is changed, if the numbers are no record
-pub record MovesInNumbers (columns rows : ℕ) (map xs : List ℕ) (x : ℕ) (after : List ℕ) : Type 0 where
-  pub answers : x ≡ cond (isRecord xs) (toldCode (told (moveRefusal columns rows map (packetOf xs)) (marked (mesh columns rows map)) (packetOf xs))) 65536
-  pub leaves : after ≡ cond (isRecord xs) (numbersOf (recordAfter (moveRefusal columns rows map (packetOf xs)) (marked (mesh columns rows map)) (packetOf xs))) xs
+-- its promise; x is 65,536, and nothing is changed, if the number is no network's or the numbers are no record
+pub record MovesInNumbers (network columns rows : ℕ) (map xs : List ℕ) (x : ℕ) (after : List ℕ) : Type 0 where
+  pub answers : x ≡ cond (isNetwork network && isRecord xs) (toldCode (moveAnswer (networkOf network) columns rows map (packetOf xs))) noRequest
+  pub leaves : after ≡ cond (isNetwork network && isRecord xs) (numbersOf (moveRecord (networkOf network) columns rows map (packetOf xs))) xs

@@ -6,7 +6,10 @@ use headings::last_number;
 use headings::last_of;
 use mesh::Packet;
 use moving::moved_on;
+use numbers::NO_REQUEST;
+use numbers::is_network;
 use numbers::moved_code;
+use numbers::network_of;
 use numbers::place_of;
 
 // Five numbers, with a last hop in the third place.
@@ -47,14 +50,23 @@ fn write_packet(p: Packet, xs: &mut [u32])
 
 // Move on, for a record of five numbers: row, column, last hop, destination row, destination column.
 #[no_mangle]
-pub extern "C" fn pinduguil_move_on(columns: u32, rows: u32, map: &[u8], packet: &mut [u32]) -> u32
-    ensures { λ x. ⌜ MovesInNumbers columns rows (now (map .entry)) (now (packet .entry)) x (now (packet .exit)) ⌝ }
+pub extern "C" fn pinduguil_move_on(
+    network: u32,
+    columns: u32,
+    rows: u32,
+    map: &[u8],
+    packet: &mut [u32],
+) -> u32
+    ensures { λ x. ⌜ MovesInNumbers network columns rows (now (map .entry)) (now (packet .entry)) x (now (packet .exit)) ⌝ }
 {
+    if !is_network(network) {
+        return NO_REQUEST;
+    }
     if !is_record(packet) {
-        return 65536;
+        return NO_REQUEST;
     }
     let p = read_packet(packet);
-    let stepped = moved_on(columns, rows, map, p);
+    let stepped = moved_on(network_of(network), columns, rows, map, p);
     let next = stepped.packet;
     let answer = stepped.moved;
     write_packet(next, packet);

@@ -59,7 +59,15 @@ unfoldable pub recordAfter : ℕ → Network → Mesh → Packet → Packet
 recordAfter zero n w p = cond (not (isThere p) && mayHop n w p) (movedPacket (hopFrom n w p) p) p
 recordAfter (suc k) n w p = p
 
+-- what it answers,
+abbrev pub moveAnswer : Network → ℕ → ℕ → List ℕ → Packet → Told
+moveAnswer network columns rows map p = told (moveRefusal columns rows map p) network (marked (mesh columns rows map)) p
+
+-- and the record as it leaves it
+abbrev pub moveRecord : Network → ℕ → ℕ → List ℕ → Packet → Packet
+moveRecord network columns rows map p = recordAfter (moveRefusal columns rows map p) network (marked (mesh columns rows map)) p
+
 -- the promise of "Move on" for a packet's record before and after it
 pub record MovesOn (network : Network) (columns rows : ℕ) (map : List ℕ) (p : Packet) (m : Moved) (after : Packet) : Type 0 where
-  pub answers : movedTold m ≡ told (moveRefusal columns rows map p) network (marked (mesh columns rows map)) p
-  pub leaves : after ≡ recordAfter (moveRefusal columns rows map p) network (marked (mesh columns rows map)) p
+  pub answers : movedTold m ≡ moveAnswer network columns rows map p
+  pub leaves : after ≡ moveRecord network columns rows map p

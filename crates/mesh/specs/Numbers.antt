@@ -1,6 +1,8 @@
 -- The papers' numbers for what is refused and what is wrong, and answers that return a number or refuse. Assumes nothing.
+use mathlib.Core.Bool.{Bool, cond, _||_}
 use mathlib.Core.List.{List, _++_}
 use Prim.Native.Nat.{ℕ, zero, suc, _+_}
+use lib.Dec.{eqb}
 use lib.ListN.{length, drop}
 use Rattle.mesh.specs.declared.Refusal.{Refusal}
 use Rattle.mesh.specs.declared.Refusal.the-variants.{Columns, Rows, MapLength, MapByte, FaultPlace, OffMesh, InBlock, BlockNearInRow, Unlawful, Room}
@@ -8,6 +10,8 @@ use Rattle.mesh.specs.declared.Checked.{Checked}
 use Rattle.mesh.specs.declared.Checked.the-variants.{Clear, Refused}
 use Rattle.mesh.specs.declared.Mistake.{Mistake}
 use Rattle.mesh.specs.declared.Mistake.the-variants.{NoLetter, LeavesMesh, Reverses, BreaksRule1, BreaksRule2, EntersBlock, NotArrived}
+use Rattle.mesh.specs.declared.Network.{Network}
+use Rattle.mesh.specs.declared.Network.the-variants.{First, Second}
 use Rattle.mesh.specs.declared.Tested.{Tested}
 use Rattle.mesh.specs.declared.Tested.the-variants.{Lawful, Wrong}
 
@@ -44,6 +48,19 @@ abbrev pub testedNumber : Tested → ℕ
 testedNumber (Lawful p) = 0
 testedNumber (Wrong m) = mistakeNumber m
 
+-- the networks in numbers
+abbrev pub networkNumber : Network → ℕ
+networkNumber First = 1
+networkNumber Second = 2
+
+-- it is the number of a network
+unfoldable pub isNetwork : ℕ → Bool
+isNetwork k = eqb k 1 || eqb k 2
+
+-- the network of that number
+unfoldable pub networkOf : ℕ → Network
+networkOf k = cond (eqb k 1) First Second
+
 -- an answer in the papers' terms: the number of a refusal, or what is returned
 pub data Answer : Type 0 where
   refused : ℕ → Answer
@@ -62,6 +79,10 @@ answerRefusal (refused k) = k
 -- a refusal among other numbers: 65,536 plus its own
 unfoldable pub refusalCode : ℕ → ℕ
 refusalCode k = 65536 + k
+
+-- what is answered where numbers are no request: refusal 0
+abbrev pub noRequest : ℕ
+noRequest = 65536
 
 -- an answer as one number: what is returned, which is below 65,536, or the refusal
 abbrev pub answerCode : Answer → ℕ

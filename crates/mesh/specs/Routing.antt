@@ -41,7 +41,17 @@ routeRefusal network columns rows map s d out =
     let w = marked (mesh columns rows map) in
     first (mapTests columns rows map ++ sendTests network w s d out)
 
--- it returns the number of hops, and writes their letters
+-- it returns the number of hops,
+abbrev pub routeAnswer : Network → ℕ → ℕ → List ℕ → Place → Place → List ℕ → Answer
+routeAnswer network columns rows map s d out =
+    answer (routeRefusal network columns rows map s d out) (length (hopsOf network (marked (mesh columns rows map)) s d))
+
+-- and writes their letters into its output
+abbrev pub routeOutput : Network → ℕ → ℕ → List ℕ → Place → Place → List ℕ → List ℕ
+routeOutput network columns rows map s d out =
+    written (routeRefusal network columns rows map s d out) (letters (hopsOf network (marked (mesh columns rows map)) s d)) out
+
+-- the promise of "Route"
 pub record Routes (network : Network) (columns rows : ℕ) (map : List ℕ) (s d : Place) (out : List ℕ) (r : Routed) (after : List ℕ) : Type 0 where
-  pub answers : routedAnswer r ≡ answer (routeRefusal network columns rows map s d out) (length (hopsOf network (marked (mesh columns rows map)) s d))
-  pub writes : after ≡ written (routeRefusal network columns rows map s d out) (letters (hopsOf network (marked (mesh columns rows map)) s d)) out
+  pub answers : routedAnswer r ≡ routeAnswer network columns rows map s d out
+  pub writes : after ≡ routeOutput network columns rows map s d out

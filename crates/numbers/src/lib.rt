@@ -1,7 +1,8 @@
-// Numbers for places, and the papers' numbers for answers: refusals, mistakes in a hand-in, and what an operation returns as one number.
+// Numbers for places and networks, and the papers' numbers for answers: refusals, mistakes in a hand-in, and what an operation returns as one
+// number.
 ghost use mathlib.Core.Path.{_≡_};
 ghost use Rattle.mesh.specs.Mesh.{place};
-ghost use Rattle.mesh.specs.Numbers.{number, mistakeNumber, refusalCode, answerCode};
+ghost use Rattle.mesh.specs.Numbers.{number, mistakeNumber, networkNumber, isNetwork, networkOf, refusalCode, answerCode};
 ghost use Rattle.mesh.specs.Marking.{markedAnswer};
 ghost use Rattle.mesh.specs.Routing.{routedAnswer};
 ghost use Rattle.mesh.specs.Moving.{movedTold, toldCode};
@@ -12,6 +13,7 @@ use mesh::Judged;
 use mesh::Marked;
 use mesh::Mistake;
 use mesh::Moved;
+use mesh::Network;
 use mesh::Place;
 use mesh::Refusal;
 use mesh::Routed;
@@ -23,6 +25,38 @@ pub fn place_of(row: u32, column: u32) -> Place
     Place {
         row: Row(row),
         column: Column(column),
+    }
+}
+
+// What is answered where numbers are no request.
+pub const NO_REQUEST: u32 = 65536;
+
+// Whether it is the number of a network.
+pub fn is_network(n: u32) -> bool
+    ensures { λ x. ⌜ x ≡ isNetwork n ⌝ }
+{
+    if n == 1 {
+        return true;
+    }
+    n == 2
+}
+
+// The network of that number: 1 the first, 2 the second.
+pub fn network_of(n: u32) -> Network
+    ensures { λ x. ⌜ x ≡ networkOf n ⌝ }
+{
+    if n == 1 {
+        return Network::First;
+    }
+    Network::Second
+}
+
+pub fn network_number(network: Network) -> u32
+    ensures { λ x. ⌜ x ≡ networkNumber network ⌝ }
+{
+    match network {
+        Network::First => return 1,
+        Network::Second => return 2,
     }
 }
 

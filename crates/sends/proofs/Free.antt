@@ -6,6 +6,7 @@ use native.Mathlib.Omega.{arith}
 use lib.ListN.{length, take, drop, length-append, length-drop, drop-of-length-le}
 use lib.Seq.{take-all, drop-drop}
 use Rattle.mesh.specs.declared.Heading.{Heading}
+use Rattle.mesh.specs.declared.Network.{Network}
 use Rattle.mesh.specs.declared.Routed.{Routed}
 use Rattle.mesh.specs.declared.Routed.the-variants.{Hops, Refused}
 use Rattle.mesh.specs.Mesh.{Mesh}
@@ -28,15 +29,15 @@ wrote-unless zero hs (Refused why) e = cc
 wrote-unless (suc k) hs (Hops n) e = cc
 wrote-unless (suc k) hs (Refused why) e = refl
 
-module _ (w : Mesh) (x : Send) (out : List ℕ) (at : ℕ) (within : at ≤ length out) where
+module _ (network : Network) (w : Mesh) (x : Send) (out : List ℕ) (at : ℕ) (within : at ≤ length out) where
   rest-size : length (drop at out) ≡ length out - at
   rest-size = length-drop at out
 
-  free-routed : {r : Routed} {mid : List ℕ} → RoutesOn w (x .source) (x .destination) (drop at out) r mid → length mid ≡ length (drop at out) →
-      RoutesSend (routeCallOn w) x out at r (take at out ++ mid)
+  free-routed : {r : Routed} {mid : List ℕ} → RoutesOn network w (x .source) (x .destination) (drop at out) r mid → length mid ≡ length (drop at out) →
+      RoutesSend (routeCallOn network w) x out at r (take at out ++ mid)
   unfolding routeCallOn call
   free-routed {r} {mid} t size =
-      let ls = routeCallOn w x (drop at out) .letters in
+      let ls = routeCallOn network w x (drop at out) .letters in
       let n : wrote r ≡ length ls = wrote-unless _ _ r (t .answers) in
       let stands : mid ≡ ls ++ drop (length ls) (drop at out) = t .writes ∙ written-unless _ _ _ in
       let whole = ap length stands ∙ length-append ls (drop (length ls) (drop at out)) in
@@ -57,7 +58,7 @@ module _ (w : Mesh) (x : Send) (out : List ℕ) (at : ℕ) (within : at ≤ leng
   none-after : drop (length out - at) (drop at out) ≡ []
   none-after = drop-of-length-le (drop at out) {i = length out - at} (omega (arith, rest-size))
 
-  pub send-routed : {r : Routed} {mid : List ℕ} → RoutesOn w (x .source) (x .destination) (take (length out - at) (drop at out)) r mid →
+  pub send-routed : {r : Routed} {mid : List ℕ} → RoutesOn network w (x .source) (x .destination) (take (length out - at) (drop at out)) r mid →
       length mid ≡ length (take (length out - at) (drop at out)) →
-      RoutesSend (routeCallOn w) x out at r (take at out ++ (mid ++ drop (length out - at) (drop at out)))
+      RoutesSend (routeCallOn network w) x out at r (take at out ++ (mid ++ drop (length out - at) (drop at out)))
   send-routed {mid = mid} t size = rw (none-after, append-nil mid) (free-routed (rw lent at t) (rw lent at size))

@@ -3,6 +3,7 @@ use mathlib.Core.Path.{_≡_}
 use mathlib.Core.List.{List}
 use Prim.Native.Nat.{ℕ, _+_, _*_}
 use lib.ListN.{drop, getD}
+use Rattle.mesh.specs.declared.Network.{Network}
 use Rattle.mesh.specs.declared.Routed.{Routed}
 use Rattle.mesh.specs.declared.Routed.the-variants.{Hops, Refused}
 use Rattle.mesh.specs.Mesh.{Mesh}
@@ -23,8 +24,8 @@ wrote (Hops n) = n
 wrote (Refused why) = 0
 
 -- Route called for a send on a marked mesh, with the output that is free
-unfoldable pub routeCallOn : Mesh → Send → List ℕ → Call
-routeCallOn w x free = call (first (sendTests w (x .source) (x .destination) free)) (hopsOf w (x .source) (x .destination))
+unfoldable pub routeCallOn : Network → Mesh → Send → List ℕ → Call
+routeCallOn network w x free = call (first (sendTests network w (x .source) (x .destination) free)) (hopsOf network w (x .source) (x .destination))
 
 -- a call with the output that is free from index at on: its answer, and its letters stand there
 pub record RoutesSend (route : Send → List ℕ → Call) (x : Send) (out : List ℕ) (at : ℕ) (r : Routed) (after : List ℕ) : Type 0 where

@@ -12,6 +12,7 @@ use Rattle.mesh.specs.declared.Place.{Place}
 use Rattle.mesh.specs.declared.Refusal.{Refusal}
 use Rattle.mesh.specs.declared.Routed.{Routed}
 use Rattle.mesh.specs.declared.Routed.the-variants.{Hops, Refused}
+use Rattle.mesh.specs.declared.Network.the-variants.{First}
 use Rattle.mesh.specs.Mesh.{Mesh}
 use Rattle.mesh.specs.Headings.{letters}
 use Rattle.mesh.specs.Tests.{_gives_, first}
@@ -42,40 +43,40 @@ answer-number zero j m xs e = cc
 answer-number (suc k) j m xs e = let q : k ≡ j = cc in rw q
 
 module _ (w : Mesh) (s d : Place) (m : Marking (w .columns) (w .rows) (w .map)) where
-  hops-few : first (requestTests w s d) ≡ 0 → length (hopsOf w s d) ≤ mostHops
+  hops-few : first (requestTests First w s d) ≡ 0 → length (hopsOf First w s d) ≤ mostHops
   hops-few clear =
       let q = request w s d clear in
-      let bounded = request-bound w s d (m .sized .few-columns) (m .sized .few-rows) (m .obstacles) q in
-      omega (arith, request-arrives w s d (m .obstacles) q .hops)
+      let bounded = request-bound First w s d (m .sized .few-columns) (m .sized .few-rows) (m .obstacles) q in
+      omega (arith, request-arrives First w s d (m .obstacles) q .hops)
 
   module _ (before : List ℕ) (room : mostHops ≤ length before) where
-    no-tenth : first (requestTests w s d) ≡ 0 → first (ltb (length before) (length (hopsOf w s d)) gives 10 ∷ []) ≡ 0
+    no-tenth : first (requestTests First w s d) ≡ 0 → first (ltb (length before) (length (hopsOf First w s d)) gives 10 ∷ []) ≡ 0
     unfolding first
     no-tenth clear =
-        let fits : length (hopsOf w s d) ≤ length before = omega (arith, hops-few clear) in
+        let fits : length (hopsOf First w s d) ≤ length before = omega (arith, hops-few clear) in
         ap (λ b. cond b 10 0) (le-ltb _ _ fits)
 
-    same-refusal : first (sendTests w s d before) ≡ first (requestTests w s d)
+    same-refusal : first (sendTests First w s d before) ≡ first (requestTests First w s d)
     unfolding sendTests
-    same-refusal = clear-same (requestTests w s d) _ (request-numbered w s d) no-tenth
+    same-refusal = clear-same (requestTests First w s d) _ (request-numbered w s d First) no-tenth
 
-    module _ {r : Routed} {after : List ℕ} (told : RoutesOn w s d before r after) where
-      told-answer : routedAnswer r ≡ answer (first (requestTests w s d)) (length (hopsOf w s d))
-      told-answer = told .answers ∙ ap (λ k. answer k (length (hopsOf w s d))) same-refusal
+    module _ {r : Routed} {after : List ℕ} (told : RoutesOn First w s d before r after) where
+      told-answer : routedAnswer r ≡ answer (first (requestTests First w s d)) (length (hopsOf First w s d))
+      told-answer = told .answers ∙ ap (λ k. answer k (length (hopsOf First w s d))) same-refusal
 
       module _ {n : ℕ} (e : r ≡ Hops n) where
-        told-hops : (first (requestTests w s d) ≡ 0) × (n ≡ length (hopsOf w s d))
+        told-hops : (first (requestTests First w s d) ≡ 0) × (n ≡ length (hopsOf First w s d))
         told-hops = answer-hops _ _ _ (ap routedAnswer (sym e) ∙ told-answer)
 
-        told-letters : after ≡ letters (hopsOf w s d) ++ drop (length (letters (hopsOf w s d))) before
+        told-letters : after ≡ letters (hopsOf First w s d) ++ drop (length (letters (hopsOf First w s d))) before
         unfolding written
         told-letters = told .writes ∙ rw (same-refusal, told-hops .0)
 
         pub sent-within : n ≤ length after
         sent-within =
-            let hs = letters (hopsOf w s d) in
+            let hs = letters (hopsOf First w s d) in
             rw told-letters
-            (omega (arith, told-hops .1, letters-length (hopsOf w s d), length-append hs (drop (length hs) before)))
+            (omega (arith, told-hops .1, letters-length (hopsOf First w s d), length-append hs (drop (length hs) before)))
 
         pub sent-fits : (at size : ℕ) → at + sendRoom ≤ size → (length (take n after) < 100000) × (at + length (take n after) + 10 ≤ size)
         sent-fits at size h =
@@ -83,9 +84,9 @@ module _ (w : Mesh) (s d : Place) (m : Marking (w .columns) (w .rows) (w .map)) 
             let (clear, counted) = told-hops in
             (omega (arith, hops-few clear), omega (arith, hops-few clear))
 
-        sent-letters : take n after ≡ letters (hopsOf w s d)
+        sent-letters : take n after ≡ letters (hopsOf First w s d)
         sent-letters =
-            ap (take n) told-letters ∙ take-at _ _ n (letters-length (hopsOf w s d) ∙ sym (told-hops .1))
+            ap (take n) told-letters ∙ take-at _ _ n (letters-length (hopsOf First w s d) ∙ sym (told-hops .1))
 
         pub sent : {out : List ℕ} {at x : ℕ} {out′ : List ℕ} → Puts out at (okLine (take n after)) x out′ → Puts out at (sendAnswer w s d) x out′
         unfolding sendAnswer answerOf
@@ -96,4 +97,4 @@ module _ (w : Mesh) (s d : Place) (m : Marking (w .columns) (w .rows) (w .map)) 
       unfolding sendAnswer
       not-sent {why} e q p =
           let a = rw (number-some why) at (ap routedAnswer (sym e) ∙ told-answer) in
-          rw (answer-number (first (requestTests w s d)) _ _ (letters (hopsOf w s d)) a) (rw (q, number-some why) at p)
+          rw (answer-number (first (requestTests First w s d)) _ _ (letters (hopsOf First w s d)) a) (rw (q, number-some why) at p)

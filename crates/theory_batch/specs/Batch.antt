@@ -73,8 +73,23 @@ unfoldable pub batchRefusal : ℕ → ℕ → List ℕ → List ℕ → List ℕ
 batchRefusal columns rows faults sends answers =
     first (mapTests columns rows faults ++ ((uneven sends || ltb (length answers) (length (sendsOf sends))) gives 18 ∷ []))
 
--- it returns the number of letters, writes the answers into the answer list and the letters into the output
+-- it returns the number of letters,
+abbrev pub batchAnswer : Network → ℕ → ℕ → List ℕ → List ℕ → List ℕ → List ℕ → Answer
+batchAnswer network columns rows faults sends answers out =
+    answer (batchRefusal columns rows faults sends answers) (length (lettersOf (batch network columns rows faults sends out)))
+
+-- writes the answers into the answer list,
+abbrev pub batchEntries : Network → ℕ → ℕ → List ℕ → List ℕ → List ℕ → List ℕ → List ℕ
+batchEntries network columns rows faults sends answers out =
+    written (batchRefusal columns rows faults sends answers) (answersOf (batch network columns rows faults sends out)) answers
+
+-- and the letters into the output
+abbrev pub batchOutput : Network → ℕ → ℕ → List ℕ → List ℕ → List ℕ → List ℕ → List ℕ
+batchOutput network columns rows faults sends answers out =
+    written (batchRefusal columns rows faults sends answers) (lettersOf (batch network columns rows faults sends out)) out
+
+-- its promise
 pub record RoutesBatch (network : Network) (columns rows : ℕ) (faults sends answers out : List ℕ) (r : Batched) (answers′ out′ : List ℕ) : Type 0 where
-  pub returns : batchedAnswer r ≡ answer (batchRefusal columns rows faults sends answers) (length (lettersOf (batch network columns rows faults sends out)))
-  pub enters : answers′ ≡ written (batchRefusal columns rows faults sends answers) (answersOf (batch network columns rows faults sends out)) answers
-  pub writes : out′ ≡ written (batchRefusal columns rows faults sends answers) (lettersOf (batch network columns rows faults sends out)) out
+  pub returns : batchedAnswer r ≡ batchAnswer network columns rows faults sends answers out
+  pub enters : answers′ ≡ batchEntries network columns rows faults sends answers out
+  pub writes : out′ ≡ batchOutput network columns rows faults sends answers out

@@ -12,7 +12,7 @@ use Rattle.mesh.specs.Rounds.{become, advance, round, sameList, settle}
 use Rattle.mesh.specs.Blocks.{run, corner, blockAt, select, blocks, reaches, someBlock}
 use Rattle.mesh.specs.Rules.{blocked, side, toward, own, stopped, again, atDestination, inRow, leaving, across, nearing, otherRow, hop}
 use Rattle.mesh.specs.Hops.{moved}
-use Rattle.mesh.specs.Walk.{arrived, hopAt, walk, shutIn, distance, detours, bound}
+use Rattle.mesh.specs.Walk.{arrived, hopAt, walk, shutIn, meetsEdge, distance, detours, bound}
 use Rattle.mesh.specs.Maps.{allowed, badSize, some, misplacedAt, misplaced}
 use Rattle.mesh.specs.Requests.{offMesh, inBlock, blockNearInRow, unserved, placeTests, tripTests, requestTests}
 use Rattle.mesh.specs.Routing.{hopsOf}
@@ -58,7 +58,7 @@ unfolding cases allPrint sheet answers atEnd lineStep commandOf commandStep answ
     change opening blocksLine isMisplaced faultLine meshLine linesOf before okLine spacedLetters line decimal digits
     commandAt command send sendTo fault sizes ended begins two words.first second spaced number more isDigit bytes
     hopsOf requestTests tripTests placeTests unserved blockNearInRow inBlock offMesh misplaced misplacedAt some badSize allowed
-    bound detours distance shutIn walk hopAt arrived moved hop otherRow nearing across leaving inRow atDestination again
+    bound detours distance meetsEdge shutIn walk hopAt arrived moved hop otherRow nearing across leaving inRow atDestination again
     stopped own toward side blocked nearInRow someBlock reaches blocks select blockAt corner run settle sameList round
     advance become unsafe ruleB ruleA upright ahead bad isBad first turnsWest letters columnAfter rowAfter onMesh
 cases-print = tt

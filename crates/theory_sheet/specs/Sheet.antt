@@ -9,6 +9,7 @@ use Rattle.theory_sheet.specs.declared.Phase.the-variants.{Start, Faults
 use Rattle.sheet_words.specs.declared.Command.{Command}
 use Rattle.sheet_words.specs.declared.Command.the-variants.{Mesh, Fault, Send, Malformed}
 use Rattle.mesh.specs.declared.Place.{Place}
+use Rattle.mesh.specs.declared.Network.the-variants.{First}
 use Rattle.mesh.specs.Mesh.{Mesh as MeshOf, mesh}
 use Rattle.mesh.specs.Headings.{letters}
 use Rattle.mesh.specs.Tests.{first}
@@ -119,9 +120,9 @@ unfoldable pub answerOf : ℕ → List ℕ → List ℕ
 answerOf zero xs = okLine xs
 answerOf (suc k) xs = line noWord (suc k)
 
--- a send's answer on a marked mesh: refusals 6 to 9, else its route
+-- a send's answer on a marked mesh, on the first network: refusals 6 to 9, else its route
 unfoldable pub sendAnswer : MeshOf → Place → Place → List ℕ
-sendAnswer w s d = answerOf (first (requestTests w s d)) (letters (hopsOf w s d))
+sendAnswer w s d = answerOf (first (requestTests First w s d)) (letters (hopsOf First w s d))
 
 -- only sends are answered
 unfoldable pub answerTo : MeshOf → Command → List ℕ

@@ -21,7 +21,7 @@ enum-known-checked c = search needs
 returns : tie.Need-returns
 returns c =
     let at-marks = c .before .before .before .before in
-    map-refused _ _ _ _ _ _ (at-marks .mark-map .ensures) (c .before .checked .given .1)
+    map-refused _ _ _ _ _ _ _ (at-marks .mark-map .ensures) (c .before .checked .given .1)
 
 enum-told : tie.Need-enum-told
 enum-told c = search needs
@@ -35,8 +35,8 @@ returns-2 c =
     let at-marks = at-clear .before .before .before in
     let is-uneven = c .before .is-uneven .ensures in
     let told = at-clear .enum-told .given .1 in
-    ⊎-elim (λ t. uneven-refused _ _ _ _ _ _ (at-marks .mark-map .ensures) told (sym is-uneven ∙ t .taken))
-    (λ p. short-refused _ _ _ _ _ _ (at-marks .mark-map .ensures) told (sym is-uneven ∙ p .0 .left) (p .1 .taken)) (c .if1 .came)
+    ⊎-elim (λ t. uneven-refused _ _ _ _ _ _ _ (at-marks .mark-map .ensures) told (sym is-uneven ∙ t .taken))
+    (λ p. short-refused _ _ _ _ _ _ _ (at-marks .mark-map .ensures) told (sym is-uneven ∙ p .0 .left) (p .1 .taken)) (c .if1 .came)
 
 array-share-prefix-marks : tie.Need-array-share-prefix-marks
 array-share-prefix-marks c =
@@ -76,7 +76,7 @@ returns-3 c =
     let whole = enough .before in
     let at-clear = whole .before .before in
     let at-marks = at-clear .before .before .before in
-    marked-batch _ _ _ _ _ _ (at-marks .mark-map .ensures) (at-clear .enum-told .given .1)
+    marked-batch _ _ _ _ _ _ _ (at-marks .mark-map .ensures) (at-clear .enum-told .given .1)
     (sym (whole .before .is-uneven .ensures) ∙ whole .if1 .left) (enough .if2 .left) (routed .route-sends .ensures)
 
 pub route-batch-spec : {M : Type 1} → statement M

@@ -9,11 +9,11 @@ use Rattle.batch.proofs.route_sends.Statement.{statement}
 use Rattle.batch.proofs.route_sends.Tie as tie
 
 abbrev Inv-loop : tie.InvT-loop
-Inv-loop columns rows marks sends answers₀ out₀ n at₀ i₀ answers out at i =
-    (i ≤ n) × Sending (routeCallOn (mesh columns rows marks)) sends answers₀ out₀ i at answers out
+Inv-loop network columns rows marks sends answers₀ out₀ n at₀ i₀ answers out at i =
+    (i ≤ n) × Sending (routeCallOn network (mesh columns rows marks)) sends answers₀ out₀ i at answers out
 
 abbrev μ-loop : tie.MeasureT-loop
-μ-loop columns rows marks sends answers₀ out₀ n at₀ i₀ answers out at i = n - i
+μ-loop network columns rows marks sends answers₀ out₀ n at₀ i₀ answers out at i = n - i
 
 loop-holds : tie.Need-loop-holds Inv-loop μ-loop
 loop-holds c = (omega arith, sending-none)
@@ -54,10 +54,13 @@ add-at c =
     let t = sending-more (turn .loop .inv .1) (omega arith) (at-numbers .send-at .ensures) (at-send .route-send .ensures)
     (at-code .routed-code .ensures) (c .wrote .ensures) in
     let at-start = turn .before .before .before .before .before in
-    omega (arith, t .within, t .out-size, at-start .good .1 .1 .1 .1 .1 .0)
+    omega (arith, t .within, t .out-size, at-start .good .1 .1 .1 .1 .1 .1 .0)
 
 add-i : tie.Need-add-i Inv-loop μ-loop
-add-i c = omega arith
+add-i c =
+    let turn = c .before .before .before .before .before .before .before .before in
+    let at-start = turn .before .before .before .before .before in
+    omega (arith, at-start .good .1 .1 .1 .1 .0)
 
 loop-less : tie.Need-loop-less Inv-loop μ-loop
 loop-less c = omega arith

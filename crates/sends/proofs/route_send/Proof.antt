@@ -23,7 +23,7 @@ returns : tie.Need-returns
 returns c =
     let routed = c .before .before in
     let at-start = routed .before .before .before .before in
-    send-routed _ _ _ _ (at-start .pre .1) (routed .route-marked .ensures) (routed .route-marked .kept .1 .1 .1 .1 .1 .0)
+    send-routed _ _ _ _ _ (at-start .pre .1) (routed .route-marked .ensures) (routed .route-marked .kept .1 .1 .1 .1 .1 .1 .0)
 
 pub route-send-spec : {M : Type 1} → statement M
 route-send-spec =
