@@ -1,6 +1,7 @@
 // Judge a hand-in.
 use judging::judge;
 use mesh::Judged;
+use mesh::Network;
 use numbers::judged_code;
 use numbers::judged_index;
 use test_prints::faults;
@@ -9,15 +10,38 @@ use test_prints::print;
 use test_prints::print_number;
 use test_prints::print_request;
 
-fn hand_in(p: u32, q: u32, source: u32, destination: u32, letters: &[u8]) -> Judged {
+fn hand_in(
+    network: Network,
+    p: u32,
+    q: u32,
+    source: u32,
+    destination: u32,
+    letters: &[u8],
+) -> Judged {
     let map = faults(p, q);
-    judge(10, 8, &map, node(source), node(destination), letters)
+    judge(
+        network,
+        10,
+        8,
+        &map,
+        node(source),
+        node(destination),
+        letters,
+    )
 }
 
 // A hand-in on a map with these faults.
-fn try_letters(p: u32, q: u32, source: u32, destination: u32, letters: &[u8]) {
-    let answer = hand_in(p, q, source, destination, letters);
-    print_request(b"judge round", p, q, source, destination);
+fn try_on(
+    network: Network,
+    what: &[u8],
+    p: u32,
+    q: u32,
+    source: u32,
+    destination: u32,
+    letters: &[u8],
+) {
+    let answer = hand_in(network, p, q, source, destination, letters);
+    print_request(what, p, q, source, destination);
     print(b" ");
     print(letters);
     print(b": ");
@@ -25,6 +49,18 @@ fn try_letters(p: u32, q: u32, source: u32, destination: u32, letters: &[u8]) {
     print(b" at ");
     print_number(judged_index(answer));
     print(b"\n");
+}
+
+fn try_letters(p: u32, q: u32, source: u32, destination: u32, letters: &[u8]) {
+    try_on(
+        Network::First,
+        b"judge round",
+        p,
+        q,
+        source,
+        destination,
+        letters,
+    );
 }
 
 // A bench case and the misreadings: on map C north round both blocks, straight north from an odd column, and WN and WS, which are free in
@@ -78,4 +114,31 @@ pub fn try_hand_ins() {
     try_turns();
     try_turns_and_more();
     try_sides();
+}
+
+// A hand-in of two letters on map A, on the second network.
+fn try_second(source: u32, destination: u32, before: u8, after: u8) {
+    let letters = [before, after];
+    try_on(
+        Network::Second,
+        b"second network, judge round",
+        34,
+        45,
+        source,
+        destination,
+        &letters,
+    );
+}
+
+// The turns of rule 1, then those of rule 2, on the second network; and one that leaves the mesh where the turn is forbidden.
+pub fn try_second_network() {
+    try_second(15, 26, b'E', b'N');
+    try_second(16, 27, b'E', b'N');
+    try_second(17, 26, b'N', b'W');
+    try_second(16, 25, b'N', b'W');
+    try_second(15, 6, b'E', b'S');
+    try_second(16, 7, b'E', b'S');
+    try_second(17, 6, b'S', b'W');
+    try_second(16, 5, b'S', b'W');
+    try_second(0, 10, b'N', b'W');
 }

@@ -3,6 +3,7 @@ use headings::letter;
 use mesh::Heading;
 use mesh::Last;
 use mesh::Moved;
+use mesh::Network;
 use mesh::Packet;
 use mesh::Stepped;
 use moving::moved_on;
@@ -51,13 +52,13 @@ fn print_record(p: Packet) {
     print(b"\n");
 }
 
-fn step(p: u32, q: u32, packet: Packet) -> Stepped {
+fn step(network: Network, p: u32, q: u32, packet: Packet) -> Stepped {
     let map = faults(p, q);
-    moved_on(10, 8, &map, packet)
+    moved_on(network, 10, 8, &map, packet)
 }
 
 // So many calls on a fresh packet, on a map with these faults.
-fn try_packet(p: u32, q: u32, source: u32, destination: u32, calls: u32) {
+fn try_on(network: Network, p: u32, q: u32, source: u32, destination: u32, calls: u32) {
     print_request(b"move on round", p, q, source, destination);
     print(b"\n");
     let mut packet = Packet {
@@ -67,13 +68,26 @@ fn try_packet(p: u32, q: u32, source: u32, destination: u32, calls: u32) {
     };
     let mut i: u32 = 0;
     while i < calls {
-        let stepped = step(p, q, packet);
+        let stepped = step(network, p, q, packet);
         let answer = stepped.moved;
         packet = stepped.packet;
         print_moved(answer);
         print_record(packet);
         i += 1;
     }
+}
+
+fn try_packet(p: u32, q: u32, source: u32, destination: u32, calls: u32) {
+    try_on(Network::First, p, q, source, destination, calls);
+}
+
+// On the second network: to arrival, shut in, and at the edge.
+pub fn try_second_network() {
+    print(b"second network\n");
+    try_on(Network::Second, 34, 45, 15, 65, 10);
+    try_on(Network::Second, 44, 44, 45, 65, 3);
+    try_on(Network::Second, 43, 43, 44, 40, 3);
+    try_on(Network::Second, 34, 45, 30, 49, 2);
 }
 
 // To arrival and beyond; refused at the start and on the way.

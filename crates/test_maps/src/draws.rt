@@ -55,6 +55,7 @@ fn draw_number(seed: u32, k: u32, size: u8) -> u8 {
 
 pub fn draw_trip(seed: u32, size: Size) -> Trip {
     Trip {
+        network: draw_from(seed, 10, 1, 2),
         row: draw_number(seed, 0, size.rows),
         column: draw_number(seed, 1, size.columns),
         to_row: draw_number(seed, 2, size.rows),

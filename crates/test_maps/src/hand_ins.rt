@@ -6,6 +6,7 @@ use crate::tallies::count;
 use judging::judge;
 use numbers::judged_code;
 use numbers::judged_index;
+use numbers::network_of;
 use std::num::wrapping_add_u32;
 use test_router::answers::Size;
 use test_router::trips::Trip;
@@ -16,7 +17,16 @@ use test_router::verdicts::judge_letters;
 fn judges(size: Size, map: &[u8], t: Trip, letters: &[u8], verdict: Verdict) -> bool {
     let s = node(t.row, t.column);
     let d = node(t.to_row, t.to_column);
-    let answer = judge(size.columns as u32, size.rows as u32, map, s, d, letters);
+    let network = network_of(t.network as u32);
+    let answer = judge(
+        network,
+        size.columns as u32,
+        size.rows as u32,
+        map,
+        s,
+        d,
+        letters,
+    );
     if judged_code(answer) != verdict.number {
         return false;
     }
@@ -60,7 +70,7 @@ pub fn change_letter(letters: &mut [u8; 4096], hops: usize, seed: u32) {
 
 // A hand-in: the first n of these letters. What judging says of it is thing 14, or the number of what is wrong more.
 pub fn try_hand_in(
-    tallies: &mut [u64; 64],
+    tallies: &mut [u64; 128],
     size: Size,
     map: &[u8],
     list: &[u8; 4096],
@@ -72,5 +82,10 @@ pub fn try_hand_in(
     let handed = start(letters, n);
     let verdict = judge_letters(size, list, boxes, t, handed);
     let thing = wrapping_add_u32(14, verdict.number) as usize;
-    count(tallies, thing, judges(size, map, t, handed, verdict));
+    count(
+        tallies,
+        t.network,
+        thing,
+        judges(size, map, t, handed, verdict),
+    );
 }

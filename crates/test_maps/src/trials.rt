@@ -13,6 +13,7 @@ use crate::handed::start;
 use crate::tallies::count;
 use marking::mark_blocks;
 use numbers::marked_code;
+use numbers::network_of;
 use numbers::routed_code;
 use routing::route;
 use std::num::wrapping_add_u32;
@@ -52,7 +53,16 @@ fn marks(size: Size, map: &[u8], n: usize, marked: &[u8; 4096]) -> bool {
 fn send(size: Size, map: &[u8], t: Trip, out: &mut [u8]) -> u32 {
     let s = node(t.row, t.column);
     let d = node(t.to_row, t.to_column);
-    routed_code(route(size.columns as u32, size.rows as u32, map, s, d, out))
+    let network = network_of(t.network as u32);
+    routed_code(route(
+        network,
+        size.columns as u32,
+        size.rows as u32,
+        map,
+        s,
+        d,
+        out,
+    ))
 }
 
 // How many letters an answer of routing stands for: none if it is a refusal.
@@ -84,17 +94,17 @@ fn draw_room(seed: u32) -> usize {
 }
 
 // Counts an answer of routing: thing 0 if it is served, else the refusal's number.
-fn count_answer(tallies: &mut [u64; 64], x: u32, held: bool) {
+fn count_answer(tallies: &mut [u64; 128], network: u8, x: u32, held: bool) {
     if x < 65536 {
-        count(tallies, 0, held);
+        count(tallies, network, 0, held);
         return;
     }
-    count(tallies, (x - 65536) as usize, held);
+    count(tallies, network, (x - 65536) as usize, held);
 }
 
 // A request.
 fn try_send(
-    tallies: &mut [u64; 64],
+    tallies: &mut [u64; 128],
     size: Size,
     map: &[u8],
     list: &[u8; 4096],
@@ -105,9 +115,14 @@ fn try_send(
     let room = draw_room(seed);
     let mut letters = [0u8; 4096];
     let x = answer_route(size, list, n, t, room, &mut letters);
-    count_answer(tallies, x, routes(size, map, t, room, x, &letters));
+    count_answer(
+        tallies,
+        t.network,
+        x,
+        routes(size, map, t, room, x, &letters),
+    );
     if x < 65536 {
-        count(tallies, 12, x <= bound(list, n, t));
+        count(tallies, t.network, 12, x <= bound(list, n, t));
         change_letter(&mut letters, x as usize, seed);
         try_hand_in(
             tallies,
@@ -124,7 +139,7 @@ fn try_send(
 
 // So many requests on a map.
 fn try_sends(
-    tallies: &mut [u64; 64],
+    tallies: &mut [u64; 128],
     size: Size,
     map: &[u8],
     list: &[u8; 4096],
@@ -140,7 +155,7 @@ fn try_sends(
 }
 
 // A map: its marks, and so many requests on it.
-fn try_map(tallies: &mut [u64; 64], shape: Shape, sends: u32, seed: u32) {
+fn try_map(tallies: &mut [u64; 128], shape: Shape, sends: u32, seed: u32) {
     let size = shape.size;
     let mut map = [0u8; 4096];
     let mut list = [0u8; 4096];
@@ -149,12 +164,12 @@ fn try_map(tallies: &mut [u64; 64], shape: Shape, sends: u32, seed: u32) {
     let mut marked = map;
     mark_boxes(size.columns, &mut marked, &list, n);
     let part = start(&map, count_nodes(size.columns, size.rows));
-    count(tallies, 11, marks(size, part, n, &marked));
+    count(tallies, 1, 11, marks(size, part, n, &marked));
     try_sends(tallies, size, part, &list, n, sends, seed);
 }
 
 // So many maps, with so many requests on each. A map has 32 seeds: its own, one for its other stretches, and one for each request.
-pub fn try_maps(tallies: &mut [u64; 64], shape: Shape, first: u32, maps: u32, sends: u32) {
+pub fn try_maps(tallies: &mut [u64; 128], shape: Shape, first: u32, maps: u32, sends: u32) {
     let mut seed = first;
     let mut i: u32 = 0;
     while i < maps {

@@ -88,7 +88,7 @@ pub fn answer_route(
             return arrive(i, room);
         }
         let h = next_hop(list, n, t, last);
-        if is_forbidden(t.column, last, h) {
+        if is_forbidden(t, last, h) {
             return REFUSED + 9;
         }
         t = after(t, h);

@@ -3,8 +3,9 @@ use crate::areas::is_within;
 use std::num::wrapping_add_u8;
 use std::num::wrapping_sub_u8;
 
-// Where a packet is and where it goes.
+// Where a packet is and where it goes, on network 1 or 2.
 pub struct Trip {
+    pub network: u8,
     pub row: u8,
     pub column: u8,
     pub to_row: u8,
@@ -58,12 +59,20 @@ fn is_upright(h: u8) -> bool {
     h == b'S'
 }
 
-// Odd columns for a packet going east, even ones for a packet going west.
-fn is_own(column: u8, h: u8) -> bool {
-    if h == b'E' {
-        return column % 2 == 1;
+// Whether the packet's column is odd; on network 2, where odd and even are exchanged, whether it is even.
+fn is_odd(t: Trip) -> bool {
+    if t.network == 2 {
+        return t.column % 2 == 0;
     }
-    column % 2 == 0
+    t.column % 2 == 1
+}
+
+// Odd columns for a packet going east, even ones for a packet going west.
+fn is_own(t: Trip, h: u8) -> bool {
+    if h == b'E' {
+        return is_odd(t);
+    }
+    !is_odd(t)
 }
 
 // Whether the packet is stopped: the next node to the side is in a block, or the second from a column of its own.
@@ -73,7 +82,7 @@ fn is_stopped(list: &[u8; 4096], n: usize, t: Trip) -> bool {
     if is_shut(list, n, next) {
         return true;
     }
-    if is_own(t.column, h) {
+    if is_own(t, h) {
         return is_shut(list, n, after(next, h));
     }
     false
@@ -82,7 +91,7 @@ fn is_stopped(list: &[u8; 4096], n: usize, t: Trip) -> bool {
 // Rules 4 and 6: toward the destination's row from a column of its own, else on.
 fn hop_level(list: &[u8; 4096], n: usize, t: Trip, on: u8) -> u8 {
     let h = toward(t);
-    if is_own(t.column, on) {
+    if is_own(t, on) {
         if !is_shut(list, n, after(t, h)) {
             return h;
         }
@@ -136,8 +145,8 @@ fn rule_on(h: u8) -> u32 {
 }
 
 // The rule that a turn breaks, or 0: EN and ES are forbidden in even columns, NW and SW in odd ones.
-pub fn broken_rule(column: u8, last: u8, h: u8) -> u32 {
-    if column % 2 == 0 {
+pub fn broken_rule(t: Trip, last: u8, h: u8) -> u32 {
+    if !is_odd(t) {
         if last == b'E' {
             return rule_on(h);
         }
@@ -150,9 +159,9 @@ pub fn broken_rule(column: u8, last: u8, h: u8) -> u32 {
 }
 
 // Whether a hop reverses, or breaks a rule.
-pub fn is_forbidden(column: u8, last: u8, h: u8) -> bool {
+pub fn is_forbidden(t: Trip, last: u8, h: u8) -> bool {
     if is_reversal(last, h) {
         return true;
     }
-    broken_rule(column, last, h) != 0
+    broken_rule(t, last, h) != 0
 }

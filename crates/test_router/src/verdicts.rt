@@ -22,8 +22,8 @@ fn is_letter(h: u8) -> bool {
 }
 
 // The number of the rule that a turn breaks, or 0.
-fn turn_number(column: u8, last: u8, h: u8) -> u32 {
-    match broken_rule(column, last, h) {
+fn turn_number(t: Trip, last: u8, h: u8) -> u32 {
+    match broken_rule(t, last, h) {
         0 => 0,
         1 => 14,
         _ => 17,
@@ -42,7 +42,7 @@ fn mistake(size: Size, list: &[u8; 4096], n: usize, t: Trip, last: u8, h: u8) ->
     if is_reversal(last, h) {
         return 13;
     }
-    let turned = turn_number(t.column, last, h);
+    let turned = turn_number(t, last, h);
     if turned != 0 {
         return turned;
     }

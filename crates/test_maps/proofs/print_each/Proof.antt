@@ -6,10 +6,10 @@ use Rattle.test_maps.proofs.print_each.Statement.{statement}
 use Rattle.test_maps.proofs.print_each.Tie as tie
 
 abbrev Inv-loop : tie.InvT-loop
-Inv-loop what tallies first end more k₀ t7 k = Unit {0}
+Inv-loop what tallies network first end more k₀ t7 k = Unit {0}
 
 abbrev μ-loop : tie.MeasureT-loop
-μ-loop what tallies first end more k₀ t7 k = end - k
+μ-loop what tallies network first end more k₀ t7 k = end - k
 
 loop-holds : tie.Need-loop-holds Inv-loop μ-loop
 loop-holds c = tt
