@@ -7,12 +7,18 @@
  * through it. An output overlaps nothing else that is handed over. All other arguments may be anything: what is wrong is refused by its
  * number. Maps, sends, hand-ins, letters and files are only read.
  *
+ * There are two networks. On the first, EN and ES turns are forbidden in even columns, NW and SW in odd ones; on the second odd and even
+ * are exchanged, there and in the hop rules. A function that takes the network and is given another number than 1 or 2 has no request: it
+ * answers PINDUGUIL_NO_REQUEST, whatever else is wrong, and writes nothing.
+ *
  * Refusals, in the order in which they are tested:
  *   1 columns not 1 to 64            6 source or destination off the mesh
  *   2 rows not 1 to 64               7 source or destination in a block
  *   3 map length not columns * rows  8 a block near the destination in its row: a node of one, 1 or 2 columns away
  *   4 a map byte above 1             9 a hop by the rules would be unlawful
  *   5 a fault where none is allowed  10 the output is too short
+ * For a route 9 comes to this: NW and SW are forbidden in the source's column, and either its west neighbour is in a block and the
+ * destination in another row or to the west, or it is in column 0 (so the network is the second) and the destination in another row.
  * A table of sends as a whole is refused by 1 to 5, then by
  *   18 the list isn't whole sends, or there are fewer entries for answers than sends
  * Letters to legs are refused by 11, then 23, then 10; legs to letters by the first of 19 to 21 that is met from the file's front, then 22,
@@ -31,6 +37,13 @@
 /* An answer that is this or more is this plus the number of a refusal. */
 #define PINDUGUIL_REFUSED 65536u
 
+/* The answer where there is no request: no network, or no record of a packet. No refusal has the number 0. */
+#define PINDUGUIL_NO_REQUEST 65536u
+
+/* The networks. */
+#define PINDUGUIL_FIRST 1u
+#define PINDUGUIL_SECOND 2u
+
 /* No route has more hops: an output of this many bytes has room for every route. */
 #define PINDUGUIL_MOST_HOPS 4034
 
@@ -38,7 +51,7 @@
 #define PINDUGUIL_NOT_SENDS 18u
 
 /* What is wrong with a hand-in, in the order in which it is tested: letter by letter the first six, after the last letter the seventh.
- * Rule 1 of document 001 is about EN and NW turns, rule 2 about ES and SW. */
+ * Rule 1 of document 001 is about EN and NW turns, rule 2 about ES and SW, on both networks. */
 #define PINDUGUIL_NO_LETTER 11u
 #define PINDUGUIL_LEAVES_MESH 12u
 #define PINDUGUIL_REVERSES 13u
@@ -65,34 +78,45 @@ uint32_t pinduguil_mark(uint32_t columns, uint32_t rows, const uint8_t *map, siz
 
 /* Route from a source to (row, column). Writes the letters of the hops and answers their number, at most PINDUGUIL_MOST_HOPS; or
  * PINDUGUIL_REFUSED plus 1 to 10. Bytes of out after the letters are left alone; on a refusal all of them are. */
-uint32_t pinduguil_route(uint32_t columns, uint32_t rows, const uint8_t *map, size_t map_length,
+uint32_t pinduguil_route(uint32_t network, uint32_t columns, uint32_t rows, const uint8_t *map, size_t map_length,
                          uint32_t source_row, uint32_t source_column, uint32_t row, uint32_t column,
                          uint8_t *out, size_t out_length);
 
-/* A whole table of sends on one map, which is checked and marked once. A send is four numbers: source row and column, destination row and
- * column. Each in turn is answered as pinduguil_route would answer it with the part of out that is still free: its entry of answers is the
- * number of its hops, whose letters stand after those of the sends before it, or PINDUGUIL_REFUSED plus 6 to 10. One that is refused takes no
- * room, so a later, shorter one may still fit; with PINDUGUIL_MOST_HOPS bytes for each send all fit.
+/* Pick the better network: routes on both, each into its own buffer, first and second; the map is checked and marked once. Answers the
+ * network with the shorter route, PINDUGUIL_FIRST on a tie or if only it was served. Its letters stand at the start of its buffer; their
+ * number is written to letters[0] and 0 to refusal[0], each if there is room for it. If the other network was served too, its letters stand in
+ * its buffer as well. A network that was refused, by 10 too, leaves its buffer alone; bytes of a buffer after the letters are left alone.
+ * Answers 0 if both refuse: then the first network's refusal, 1 to 10, is written to refusal[0] if there is room for it, and nothing else.
+ * Numbers of letters and refusal beyond the first are left alone. */
+uint32_t pinduguil_pick(uint32_t columns, uint32_t rows, const uint8_t *map, size_t map_length,
+                        uint32_t source_row, uint32_t source_column, uint32_t row, uint32_t column,
+                        uint8_t *first, size_t first_length, uint8_t *second, size_t second_length,
+                        uint64_t *letters, size_t letters_length, uint64_t *refusal, size_t refusal_length);
+
+/* A whole table of sends on a network and one map, which is checked and marked once. A send is four numbers: source row and column,
+ * destination row and column. Each in turn is answered as pinduguil_route would answer it with the part of out that is still free: its entry
+ * of answers is the number of its hops, whose letters stand after those of the sends before it, or PINDUGUIL_REFUSED plus 6 to 10. One that is
+ * refused takes no room, so a later, shorter one may still fit; with PINDUGUIL_MOST_HOPS bytes for each send all fit.
  * Answers 0, and the number of all letters is written to letters[0] if there is room for it; or a refusal, 1 to 5 or PINDUGUIL_NOT_SENDS, and
  * then nothing is written. Entries of answers beyond the last send, bytes of out after the letters and numbers of letters beyond the
  * first are left alone. */
-uint32_t pinduguil_route_batch(uint32_t columns, uint32_t rows, const uint8_t *map, size_t map_length,
+uint32_t pinduguil_route_batch(uint32_t network, uint32_t columns, uint32_t rows, const uint8_t *map, size_t map_length,
                                const uint32_t *sends, size_t sends_length, uint32_t *answers, size_t answers_length,
                                uint8_t *out, size_t out_length, uint64_t *letters, size_t letters_length);
 
-/* Judge a hand-in: letters that should lead from a source to (row, column). Answers 0 if it is passed, or what is wrong:
+/* Judge a hand-in: letters that should lead from a source to (row, column) by a network's turns. Answers 0 if it is passed, or what is wrong:
  * a refusal 1 to 7, or 11 not a letter, 12 leaves the mesh, 13 reverses, 14 breaks rule 1, 17 breaks rule 2, 15 enters a block, 16 does not
- * end at the destination. If index has room, index[0] is written whatever the answer: the hand-in's length (0 and 16), the index of the
+ * end at the destination. If index has room, index[0] is written with each of these answers: the hand-in's length (0 and 16), the index of the
  * wrong letter (11 to 15 and 17), or 0 (refusals 1 to 7). Numbers of index beyond the first are left alone. */
-uint32_t pinduguil_judge(uint32_t columns, uint32_t rows, const uint8_t *map, size_t map_length,
+uint32_t pinduguil_judge(uint32_t network, uint32_t columns, uint32_t rows, const uint8_t *map, size_t map_length,
                          uint32_t source_row, uint32_t source_column, uint32_t row, uint32_t column,
                          const uint8_t *letters, size_t letters_length, uint64_t *index, size_t index_length);
 
 /* Move on: one hop of a packet. Its record is five numbers: row, column, last hop, destination row, destination column. Last hops in
  * numbers: 0 none, 1 E, 2 N, 3 S, 4 W. Answers the letter of the hop, and the record shows the new place and the last hop; or 0 if it has
  * arrived; or PINDUGUIL_REFUSED plus 1 to 9. The record itself is looked at before any refusal: if it hasn't exactly five numbers with a
- * last hop of 0 to 4, the answer is PINDUGUIL_REFUSED, whatever else is wrong. Where no letter is answered the record is left alone. */
-uint32_t pinduguil_move_on(uint32_t columns, uint32_t rows, const uint8_t *map, size_t map_length,
+ * last hop of 0 to 4, the answer is PINDUGUIL_NO_REQUEST, whatever else is wrong. Where no letter is answered the record is left alone. */
+uint32_t pinduguil_move_on(uint32_t network, uint32_t columns, uint32_t rows, const uint8_t *map, size_t map_length,
                            uint32_t *packet, size_t packet_length);
 
 /* Letters to legs: writes the file of a route's straight legs. A file is numbers in groups of seven bits, lowest group first, the top bit set

@@ -1,8 +1,9 @@
-//! Loads a map, marks it, routes a packet, judges the route, writes its file of legs and reads it back, and moves the packet along it; routes a
-//! table of sends, with room for all and without; then what bad requests, hand-ins and files are answered.
+//! Loads a map and marks it; on each network routes a packet, judges the route, writes its file of legs and reads it back, and moves the
+//! packet along it; picks the better network; routes a table of sends, with room for all and without; then what bad requests, hand-ins and
+//! files are answered.
 //!   c/library && rustc -O rust/loader.rs -L target/staticlib -l static=pinduguil -o loader && ./loader
 mod wrapper;
-use wrapper::{legs_to_letters, letters_to_legs, Mesh, Moved, Packet, Place, Refusal, MOST_HOPS};
+use wrapper::{legs_to_letters, letters_to_legs, Mesh, Moved, Network, Packet, Place, Refusal, MOST_HOPS};
 
 /// A route's file, and the letters that are read from it.
 fn show_file(letters: &[u8]) -> Result<(), Refusal> {
@@ -25,30 +26,41 @@ fn main() {
 
     let (source, destination) = (Place { row: 1, column: 5 }, Place { row: 6, column: 5 });
     let mut out = vec![0; MOST_HOPS];
-    match mesh.route(source, destination, &mut out) {
-        Err(why) => println!("no {}", why.0),
-        Ok(letters) => {
-            println!("ok {} {}", letters.len(), String::from_utf8_lossy(letters));
-            println!("{:?}", mesh.judge(source, destination, letters));
-            if let Err(why) = show_file(letters) {
-                println!("no {}", why.0);
+    for network in [Network::First, Network::Second] {
+        match mesh.route(network, source, destination, &mut out) {
+            Err(why) => println!("no {}", why.0),
+            Ok(letters) => {
+                println!("{network:?} network: ok {} {}", letters.len(), String::from_utf8_lossy(letters));
+                println!("{:?}", mesh.judge(network, source, destination, letters));
+                if let Err(why) = show_file(letters) {
+                    println!("no {}", why.0);
+                }
             }
         }
-    }
 
-    let mut packet = Packet { place: source, last: None, destination };
-    while let Moved::Letter(letter) = mesh.move_on(&mut packet) {
-        println!("{} to ({}, {})", letter as char, packet.place.row, packet.place.column);
+        let mut packet = Packet { place: source, last: None, destination };
+        while let Moved::Letter(letter) = mesh.move_on(network, &mut packet) {
+            println!("{} to ({}, {})", letter as char, packet.place.row, packet.place.column);
+        }
     }
 
     let side = Place { row: 4, column: 6 };
     let above = Place { row: 5, column: 4 };
     let (west, east) = (Place { row: 3, column: 0 }, Place { row: 3, column: 9 });
+    // the second is shorter; a tie; the first alone; the second alone, for want of room; neither
+    let mut other = vec![0; MOST_HOPS];
+    for (source, destination, room) in [
+        (source, destination, MOST_HOPS), (west, east, MOST_HOPS), (west, destination, MOST_HOPS), (west, east, 12), (source, side, MOST_HOPS),
+    ] {
+        let picked = mesh.pick(source, destination, &mut out[..room], &mut other);
+        println!("{:?}", picked.map(|(network, letters)| (network, String::from_utf8_lossy(letters))));
+    }
+
     let sends = [[source, destination], [west, east], [west, side], [east, Place { row: 3, column: 8 }]];
     let mut answers = [0; 4];
     let mut room = vec![0; sends.len() * MOST_HOPS];
     for out in [&mut room[..], &mut [0; 12]] {
-        match mesh.route_batch(&sends, &mut answers, out) {
+        match mesh.route_batch(Network::First, &sends, &mut answers, out) {
             Err(why) => println!("no {}", why.0),
             Ok(batch) => {
                 println!("table of {} letters", batch.letters().len());
@@ -58,15 +70,17 @@ fn main() {
             }
         }
     }
-    println!("{:?}", mesh.route_batch(&sends, &mut answers[..3], &mut room).err());
+    println!("{:?}", mesh.route_batch(Network::First, &sends, &mut answers[..3], &mut room).err());
 
-    println!("{:?}", mesh.route(source, side, &mut out));
-    println!("{:?}", mesh.route(source, above, &mut out).map(String::from_utf8_lossy));
+    println!("{:?}", mesh.route(Network::First, source, side, &mut out));
+    println!("{:?}", mesh.route(Network::First, source, above, &mut out).map(String::from_utf8_lossy));
+    println!("{:?}", mesh.route(Network::Second, west, above, &mut out));
     println!("{:?}", Mesh { columns: 65, ..mesh }.mark(&mut marks));
-    println!("{:?}", mesh.judge(Place { row: 3, column: 5 }, destination, b"N"));
-    println!("{:?}", mesh.judge(source, destination, b"NX"));
+    println!("{:?}", mesh.judge(Network::First, Place { row: 3, column: 5 }, destination, b"N"));
+    println!("{:?}", mesh.judge(Network::First, source, destination, b"NX"));
     for letters in [b"EN", b"ES", b"NW"] {
-        println!("{}: {:?}", String::from_utf8_lossy(letters), mesh.judge(source, destination, letters));
+        let [first, second] = [Network::First, Network::Second].map(|network| mesh.judge(network, source, destination, letters));
+        println!("{}: {first:?}, {second:?}", String::from_utf8_lossy(letters));
     }
     println!("{:?}", letters_to_legs(b"NX", &mut out));
     for file in [&[2, 0][..], &[1, 128, 0], &[2, 0, 4], &[1, 0, 0]] {

@@ -1,11 +1,14 @@
 //! The operations of documents 01 and 02 in plain Rust: std only, written the direct way from the paper, apart from the proved code. The
 //! differential test compares the library with it, and speed is measured against it.
-//! There is a section for each operation. `mark`, `route`, `route_batch`, `judge` and `move_on` answer and write as the functions of
+//! There is a section for each operation. `mark`, `route`, `pick`, `route_batch`, `judge` and `move_on` answer and write as the functions of
 //! c/pinduguil.h do, on a map that `Mesh::new` has checked and marked, or refused.
 #![allow(dead_code)]
 
 /// An answer that is this or more is this plus the number of a refusal.
 pub const REFUSED: u32 = 65_536;
+
+/// The answer where there is no request: no network, or no record.
+pub const NO_REQUEST: u32 = 65_536;
 
 /// A row and a column as a caller gives them.
 pub type Place = (u32, u32);
@@ -23,6 +26,45 @@ pub fn node(place: Place) -> Node {
 /// The number that an operation answers, or the refusal of the map or of the request.
 fn answer(mesh: &Checked, operation: impl FnOnce(&Mesh) -> Result<u32, u32>) -> u32 {
     mesh.as_ref().map_err(|why| *why).and_then(operation).unwrap_or_else(|why| REFUSED + why)
+}
+
+/// The same of an operation that takes the network, if the number is one's.
+fn answer_on(network: u32, mesh: &Checked, operation: impl FnOnce(&Mesh, Network) -> Result<u32, u32>) -> u32 {
+    match Network::numbered(network) {
+        Some(network) => answer(mesh, |mesh| operation(mesh, network)),
+        None => NO_REQUEST,
+    }
+}
+
+/// Writes the first of some numbers, if there is one.
+fn put_first(numbers: &mut [u64], n: u64) {
+    if let Some(first) = numbers.first_mut() {
+        *first = n;
+    }
+}
+
+// ---- Networks
+
+/// The two networks. On the second odd and even columns are exchanged, in the turn rules and in the hop rules.
+#[derive(Clone, Copy, Debug, PartialEq, Eq)]
+pub enum Network {
+    First = 0,
+    Second = 1,
+}
+
+impl Network {
+    pub fn numbered(number: u32) -> Option<Network> {
+        match number {
+            1 => Some(Network::First),
+            2 => Some(Network::Second),
+            _ => None,
+        }
+    }
+
+    /// Whether NW and SW are forbidden in column c: an odd one on the first network, an even one on the second. In the others EN and ES are.
+    fn forbids_west(self, c: i32) -> bool {
+        (c + self as i32) % 2 == 1
+    }
 }
 
 // ---- Maps and their marks
@@ -115,6 +157,12 @@ impl Mesh {
     pub fn marks(&self) -> &[u8] {
         &self.marks
     }
+
+    /// The same mesh with a column more at its west edge, all safe. There a node's column is odd where it was even.
+    pub fn widened(&self) -> Mesh {
+        let marks = self.marks.chunks(self.columns as usize).flat_map(|row| [&[0], row].concat()).collect();
+        Mesh { columns: self.columns + 1, marks, ..*self }
+    }
 }
 
 // ---- Mark blocks
@@ -198,26 +246,26 @@ fn reverses(last: u8, h: u8) -> bool {
 }
 
 /// The rule of document 001 that a turn breaks in column c, if any.
-fn broken_rule(last: u8, h: u8, c: i32) -> Option<u32> {
+fn broken_rule(network: Network, last: u8, h: u8, c: i32) -> Option<u32> {
     match (last, h) {
-        (b'E', b'N') if c % 2 == 0 => Some(1),
-        (b'N', b'W') if c % 2 == 1 => Some(1),
-        (b'E', b'S') if c % 2 == 0 => Some(2),
-        (b'S', b'W') if c % 2 == 1 => Some(2),
+        (b'E', b'N') if !network.forbids_west(c) => Some(1),
+        (b'N', b'W') if network.forbids_west(c) => Some(1),
+        (b'E', b'S') if !network.forbids_west(c) => Some(2),
+        (b'S', b'W') if network.forbids_west(c) => Some(2),
         _ => None,
     }
 }
 
 impl Mesh {
-    pub fn is_lawful(&self, at: Node, last: u8, h: u8) -> bool {
-        self.mark(after(at, h)) == Some(0) && !reverses(last, h) && broken_rule(last, h, at.1).is_none()
+    pub fn is_lawful(&self, network: Network, at: Node, last: u8, h: u8) -> bool {
+        self.mark(after(at, h)) == Some(0) && !reverses(last, h) && broken_rule(network, last, h, at.1).is_none()
     }
 
     /// The hop rules 2 to 6.
-    pub fn hop(&self, (r, c): Node, last: u8, (to_r, to_c): Node) -> u8 {
+    pub fn hop(&self, network: Network, (r, c): Node, last: u8, (to_r, to_c): Node) -> u8 {
         let (side, step) = if to_c > c { (b'E', 1) } else { (b'W', -1) };
-        // odd columns for a packet going east, even ones for a packet going west
-        let is_own = |side: u8| if side == b'E' { c % 2 == 1 } else { c % 2 == 0 };
+        // on the first network odd columns for a packet going east, even ones for a packet going west
+        let is_own = |side: u8| network.forbids_west(c) == (side == b'E');
         let is_stopped = || self.is_bad((r, c + step)) || (is_own(side) && self.is_bad((r, c + 2 * step)));
         if r == to_r {
             if !is_stopped() {
@@ -255,10 +303,10 @@ impl Mesh {
 
 // ---- Route
 
-pub fn route(mesh: &Checked, source: Place, destination: Place, out: &mut [u8]) -> u32 {
-    answer(mesh, |mesh| {
+pub fn route(network: u32, mesh: &Checked, source: Place, destination: Place, out: &mut [u8]) -> u32 {
+    answer_on(network, mesh, |mesh, network| {
         let mut letters = vec![];
-        mesh.route(source, destination, &mut letters)?;
+        mesh.route(network, source, destination, &mut letters)?;
         let out = out.get_mut(..letters.len()).ok_or(10u32)?;
         out.copy_from_slice(&letters);
         Ok(letters.len() as u32)
@@ -266,22 +314,24 @@ pub fn route(mesh: &Checked, source: Place, destination: Place, out: &mut [u8]) 
 }
 
 impl Mesh {
-    /// The condition that refusal 9 comes to.
-    pub fn is_shut_in(&self, (r, c): Node, (to_r, to_c): Node) -> bool {
-        c % 2 == 1 && self.is_bad((r, c - 1)) && (r != to_r || to_c < c)
+    /// The condition that refusal 9 comes to: the source is shut in by a block, or meets the edge.
+    pub fn is_shut_in(&self, network: Network, (r, c): Node, (to_r, to_c): Node) -> bool {
+        let by_block = self.is_bad((r, c - 1)) && (r != to_r || to_c < c);
+        let by_edge = c == 0 && r != to_r;
+        network.forbids_west(c) && (by_block || by_edge)
     }
 
     /// The letters of a route, or its refusal, 6 to 9.
-    pub fn route(&self, source: Place, destination: Place, letters: &mut Vec<u8>) -> Result<(), u32> {
+    pub fn route(&self, network: Network, source: Place, destination: Place, letters: &mut Vec<u8>) -> Result<(), u32> {
         letters.clear();
         self.check_request(source, destination)?;
         let (mut at, to) = (node(source), node(destination));
-        if self.is_shut_in(at, to) {
+        if self.is_shut_in(network, at, to) {
             return Err(9);
         }
         let mut last = 0;
         while at != to {
-            last = self.hop(at, last, to);
+            last = self.hop(network, at, last, to);
             letters.push(last);
             at = after(at, last);
         }
@@ -289,10 +339,28 @@ impl Mesh {
     }
 }
 
+// ---- Pick the network with the shorter route
+
+/// 1 or 2, the number of letters goes to `letters`, and 0 to `refusal`; or 0, and the first network's refusal goes to `refusal`.
+pub fn pick(
+    mesh: &Checked, source: Place, destination: Place, first: &mut [u8], second: &mut [u8], letters: &mut [u64], refusal: &mut [u64],
+) -> u32 {
+    let answers = [route(1, mesh, source, destination, first), route(2, mesh, source, destination, second)];
+    let hops = answers[0].min(answers[1]);
+    if hops >= REFUSED {
+        put_first(refusal, (answers[0] - REFUSED) as u64);
+        return 0;
+    }
+    put_first(letters, hops as u64);
+    put_first(refusal, 0);
+    if answers[0] == hops { 1 } else { 2 }
+}
+
 // ---- A whole table of sends
 
 /// An answer is the number of hops, or 65,536 plus the refusal; the number of all letters goes to `letters`.
-pub fn route_batch(mesh: &Checked, sends: &[u32], answers: &mut [u32], out: &mut [u8], letters: &mut [u64]) -> u32 {
+pub fn route_batch(network: u32, mesh: &Checked, sends: &[u32], answers: &mut [u32], out: &mut [u8], letters: &mut [u64]) -> u32 {
+    let Some(network) = Network::numbered(network) else { return NO_REQUEST };
     let mesh = match mesh {
         Ok(mesh) => mesh,
         Err(why) => return *why,
@@ -302,7 +370,7 @@ pub fn route_batch(mesh: &Checked, sends: &[u32], answers: &mut [u32], out: &mut
     }
     let (mut at, mut route) = (0, vec![]);
     for (send, answer) in sends.chunks(4).zip(answers) {
-        *answer = match mesh.route((send[0], send[1]), (send[2], send[3]), &mut route) {
+        *answer = match mesh.route(network, (send[0], send[1]), (send[2], send[3]), &mut route) {
             Err(why) => REFUSED + why,
             Ok(()) if out.len() - at < route.len() => REFUSED + 10,
             Ok(()) => {
@@ -312,28 +380,25 @@ pub fn route_batch(mesh: &Checked, sends: &[u32], answers: &mut [u32], out: &mut
             }
         };
     }
-    if let Some(first) = letters.first_mut() {
-        *first = at as u64;
-    }
+    put_first(letters, at as u64);
     0
 }
 
 // ---- Judge a hand-in
 
-pub fn judge(mesh: &Checked, source: Place, destination: Place, letters: &[u8], index: &mut [u64]) -> u32 {
+pub fn judge(network: u32, mesh: &Checked, source: Place, destination: Place, letters: &[u8], index: &mut [u64]) -> u32 {
+    let Some(network) = Network::numbered(network) else { return NO_REQUEST };
     let (answer, i) = match mesh {
-        Ok(mesh) => mesh.judge(source, destination, letters),
+        Ok(mesh) => mesh.judge(network, source, destination, letters),
         Err(why) => (*why, 0),
     };
-    if let Some(first) = index.first_mut() {
-        *first = i as u64;
-    }
+    put_first(index, i as u64);
     answer
 }
 
 impl Mesh {
     /// 0 passed or what is wrong, and the length or the index.
-    fn judge(&self, source: Place, destination: Place, letters: &[u8]) -> (u32, usize) {
+    fn judge(&self, network: Network, source: Place, destination: Place, letters: &[u8]) -> (u32, usize) {
         if let Err(why) = self.check_places(source, destination) {
             return (why, 0);
         }
@@ -347,7 +412,7 @@ impl Mesh {
             if reverses(last, h) {
                 return (13, i);
             }
-            if let Some(rule) = broken_rule(last, h, at.1) {
+            if let Some(rule) = broken_rule(network, last, h, at.1) {
                 return (if rule == 1 { 14 } else { 17 }, i);
             }
             if mark != 0 {
@@ -364,17 +429,17 @@ impl Mesh {
 /// Last hops by their numbers.
 const LAST: [u8; 5] = [0, b'E', b'N', b'S', b'W'];
 
-pub fn move_on(mesh: &Checked, packet: &mut [u32]) -> u32 {
-    let [row, column, last @ 0..=4, to_row, to_column] = *packet else { return REFUSED };
+pub fn move_on(network: u32, mesh: &Checked, packet: &mut [u32]) -> u32 {
+    let [row, column, last @ 0..=4, to_row, to_column] = *packet else { return NO_REQUEST };
     let (place, destination, last) = ((row, column), (to_row, to_column), LAST[last as usize]);
-    answer(mesh, |mesh| {
+    answer_on(network, mesh, |mesh, network| {
         mesh.check_request(place, destination)?;
         if place == destination {
             return Ok(0);
         }
         let at = node(place);
-        let h = mesh.hop(at, last, node(destination));
-        if !mesh.is_lawful(at, last, h) {
+        let h = mesh.hop(network, at, last, node(destination));
+        if !mesh.is_lawful(network, at, last, h) {
             return Err(9);
         }
         let (r, c) = after(at, h);

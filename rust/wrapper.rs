@@ -6,24 +6,31 @@
 pub const MOST_HOPS: usize = 4034;
 
 /// The functions of the library as they are: an answer of 65,536 or more is that plus a refusal. `judge`, `route_batch`, `letters_to_legs` and
-/// `legs_to_letters` answer 0 or what is wrong.
+/// `legs_to_letters` answer 0 or what is wrong, `pick` the network or 0. A network is 1 or 2; with another number the answer is 65,536.
 pub mod raw {
     pub mod library {
         extern "C" {
             pub fn pinduguil_mark(columns: u32, rows: u32, map: *const u8, map_length: usize, out: *mut u8, out_length: usize) -> u32;
             pub fn pinduguil_route(
+                network: u32, columns: u32, rows: u32, map: *const u8, map_length: usize, source_row: u32, source_column: u32, row: u32,
+                column: u32, out: *mut u8, out_length: usize,
+            ) -> u32;
+            pub fn pinduguil_pick(
                 columns: u32, rows: u32, map: *const u8, map_length: usize, source_row: u32, source_column: u32, row: u32, column: u32,
-                out: *mut u8, out_length: usize,
+                first: *mut u8, first_length: usize, second: *mut u8, second_length: usize, letters: *mut u64, letters_length: usize,
+                refusal: *mut u64, refusal_length: usize,
             ) -> u32;
             pub fn pinduguil_route_batch(
-                columns: u32, rows: u32, map: *const u8, map_length: usize, sends: *const u32, sends_length: usize, answers: *mut u32,
-                answers_length: usize, out: *mut u8, out_length: usize, letters: *mut u64, letters_length: usize,
+                network: u32, columns: u32, rows: u32, map: *const u8, map_length: usize, sends: *const u32, sends_length: usize,
+                answers: *mut u32, answers_length: usize, out: *mut u8, out_length: usize, letters: *mut u64, letters_length: usize,
             ) -> u32;
             pub fn pinduguil_judge(
-                columns: u32, rows: u32, map: *const u8, map_length: usize, source_row: u32, source_column: u32, row: u32, column: u32,
-                letters: *const u8, letters_length: usize, index: *mut u64, index_length: usize,
+                network: u32, columns: u32, rows: u32, map: *const u8, map_length: usize, source_row: u32, source_column: u32, row: u32,
+                column: u32, letters: *const u8, letters_length: usize, index: *mut u64, index_length: usize,
             ) -> u32;
-            pub fn pinduguil_move_on(columns: u32, rows: u32, map: *const u8, map_length: usize, packet: *mut u32, packet_length: usize) -> u32;
+            pub fn pinduguil_move_on(
+                network: u32, columns: u32, rows: u32, map: *const u8, map_length: usize, packet: *mut u32, packet_length: usize,
+            ) -> u32;
             pub fn pinduguil_letters_to_legs(
                 letters: *const u8, letters_length: usize, out: *mut u8, out_length: usize, written: *mut u64, written_length: usize,
             ) -> u32;
@@ -39,38 +46,54 @@ pub mod raw {
         unsafe { library::pinduguil_mark(columns, rows, map.as_ptr(), map.len(), out.as_mut_ptr(), out.len()) }
     }
 
-    pub fn route(columns: u32, rows: u32, map: &[u8], source: (u32, u32), destination: (u32, u32), out: &mut [u8]) -> u32 {
+    pub fn route(
+        network: u32, columns: u32, rows: u32, map: &[u8], source: (u32, u32), destination: (u32, u32), out: &mut [u8],
+    ) -> u32 {
         unsafe {
             library::pinduguil_route(
-                columns, rows, map.as_ptr(), map.len(), source.0, source.1, destination.0, destination.1, out.as_mut_ptr(), out.len(),
+                network, columns, rows, map.as_ptr(), map.len(), source.0, source.1, destination.0, destination.1,
+                out.as_mut_ptr(), out.len(),
+            )
+        }
+    }
+
+    pub fn pick(
+        columns: u32, rows: u32, map: &[u8], source: (u32, u32), destination: (u32, u32), first: &mut [u8], second: &mut [u8],
+        letters: &mut [u64], refusal: &mut [u64],
+    ) -> u32 {
+        unsafe {
+            library::pinduguil_pick(
+                columns, rows, map.as_ptr(), map.len(), source.0, source.1, destination.0, destination.1,
+                first.as_mut_ptr(), first.len(), second.as_mut_ptr(), second.len(),
+                letters.as_mut_ptr(), letters.len(), refusal.as_mut_ptr(), refusal.len(),
             )
         }
     }
 
     pub fn route_batch(
-        columns: u32, rows: u32, map: &[u8], sends: &[u32], answers: &mut [u32], out: &mut [u8], letters: &mut [u64],
+        network: u32, columns: u32, rows: u32, map: &[u8], sends: &[u32], answers: &mut [u32], out: &mut [u8], letters: &mut [u64],
     ) -> u32 {
         unsafe {
             library::pinduguil_route_batch(
-                columns, rows, map.as_ptr(), map.len(), sends.as_ptr(), sends.len(), answers.as_mut_ptr(), answers.len(),
+                network, columns, rows, map.as_ptr(), map.len(), sends.as_ptr(), sends.len(), answers.as_mut_ptr(), answers.len(),
                 out.as_mut_ptr(), out.len(), letters.as_mut_ptr(), letters.len(),
             )
         }
     }
 
     pub fn judge(
-        columns: u32, rows: u32, map: &[u8], source: (u32, u32), destination: (u32, u32), letters: &[u8], index: &mut [u64],
+        network: u32, columns: u32, rows: u32, map: &[u8], source: (u32, u32), destination: (u32, u32), letters: &[u8], index: &mut [u64],
     ) -> u32 {
         unsafe {
             library::pinduguil_judge(
-                columns, rows, map.as_ptr(), map.len(), source.0, source.1, destination.0, destination.1, letters.as_ptr(), letters.len(),
-                index.as_mut_ptr(), index.len(),
+                network, columns, rows, map.as_ptr(), map.len(), source.0, source.1, destination.0, destination.1,
+                letters.as_ptr(), letters.len(), index.as_mut_ptr(), index.len(),
             )
         }
     }
 
-    pub fn move_on(columns: u32, rows: u32, map: &[u8], packet: &mut [u32]) -> u32 {
-        unsafe { library::pinduguil_move_on(columns, rows, map.as_ptr(), map.len(), packet.as_mut_ptr(), packet.len()) }
+    pub fn move_on(network: u32, columns: u32, rows: u32, map: &[u8], packet: &mut [u32]) -> u32 {
+        unsafe { library::pinduguil_move_on(network, columns, rows, map.as_ptr(), map.len(), packet.as_mut_ptr(), packet.len()) }
     }
 
     pub fn letters_to_legs(letters: &[u8], out: &mut [u8], written: &mut [u64]) -> u32 {
@@ -92,6 +115,14 @@ const REFUSED: u32 = 65_536;
 
 fn answer(x: u32) -> Result<u32, Refusal> {
     if x < REFUSED { Ok(x) } else { Err(Refusal(x - REFUSED)) }
+}
+
+/// On the first network EN and ES turns are forbidden in even columns, NW and SW in odd ones; on the second odd and even are exchanged, there
+/// and in the hop rules.
+#[derive(Clone, Copy, Debug, PartialEq, Eq)]
+pub enum Network {
+    First = 1,
+    Second = 2,
 }
 
 /// A row and a column, counted from 0. Two numbers in this order, and nothing else, so that a list of places is a list of numbers.
@@ -132,7 +163,7 @@ pub enum Moved {
 }
 
 /// What is wrong with a hand-in, in the order in which it is tested, by the papers' numbers. Rule 1 of document 001 is about EN and NW turns,
-/// rule 2 about ES and SW.
+/// rule 2 about ES and SW, on both networks.
 #[derive(Clone, Copy, Debug, PartialEq, Eq)]
 pub enum Mistake {
     NoLetter = 11,
@@ -204,27 +235,45 @@ impl Mesh<'_> {
     }
 
     /// Writes the letters of the hops to the start of `out`, and answers them.
-    pub fn route<'o>(&self, source: Place, destination: Place, out: &'o mut [u8]) -> Result<&'o [u8], Refusal> {
-        let hops = answer(raw::route(self.columns, self.rows, self.map, source.pair(), destination.pair(), out))?;
+    pub fn route<'o>(&self, network: Network, source: Place, destination: Place, out: &'o mut [u8]) -> Result<&'o [u8], Refusal> {
+        let hops = answer(raw::route(network as u32, self.columns, self.rows, self.map, source.pair(), destination.pair(), out))?;
         Ok(&out[..hops as usize])
+    }
+
+    /// Routes on both networks, each to its own output; the map is checked and marked once. Answers the network with the shorter route, the
+    /// first on a tie or if only it was served, and its letters, the start of its output; or the first network's refusal if both refuse. A
+    /// network that was not served, for want of room too, leaves its output alone.
+    pub fn pick<'o>(
+        &self, source: Place, destination: Place, first: &'o mut [u8], second: &'o mut [u8],
+    ) -> Result<(Network, &'o [u8]), Refusal> {
+        let (mut letters, mut refusal) = ([0], [0]);
+        let (s, d) = (source.pair(), destination.pair());
+        match raw::pick(self.columns, self.rows, self.map, s, d, first, second, &mut letters, &mut refusal) {
+            0 => Err(Refusal(refusal[0] as u32)),
+            1 => Ok((Network::First, &first[..letters[0] as usize])),
+            _ => Ok((Network::Second, &second[..letters[0] as usize])),
+        }
     }
 
     /// Routes each send, a source and a destination, with the part of `out` that is still free; the map is checked and marked once. One that
     /// doesn't fit is refused 10 and takes no room. `MOST_HOPS` bytes for each send are always enough. There must be an entry of `answers` for
     /// each, else all is refused by 18.
-    pub fn route_batch<'o>(&self, sends: &[[Place; 2]], answers: &'o mut [u32], out: &'o mut [u8]) -> Result<Batch<'o>, Refusal> {
+    pub fn route_batch<'o>(
+        &self, network: Network, sends: &[[Place; 2]], answers: &'o mut [u32], out: &'o mut [u8],
+    ) -> Result<Batch<'o>, Refusal> {
         // Sound: two places are four numbers.
         let numbers = unsafe { std::slice::from_raw_parts(sends.as_ptr().cast(), 4 * sends.len()) };
         let mut letters = [0];
-        match raw::route_batch(self.columns, self.rows, self.map, numbers, answers, out, &mut letters) {
+        match raw::route_batch(network as u32, self.columns, self.rows, self.map, numbers, answers, out, &mut letters) {
             0 => Ok(Batch { answers: &answers[..sends.len()], letters: &out[..letters[0] as usize] }),
             number => Err(Refusal(number)),
         }
     }
 
-    pub fn judge(&self, source: Place, destination: Place, letters: &[u8]) -> Judged {
+    pub fn judge(&self, network: Network, source: Place, destination: Place, letters: &[u8]) -> Judged {
         let mut index = [0];
-        match raw::judge(self.columns, self.rows, self.map, source.pair(), destination.pair(), letters, &mut index) {
+        let (s, d) = (source.pair(), destination.pair());
+        match raw::judge(network as u32, self.columns, self.rows, self.map, s, d, letters, &mut index) {
             0 => Judged::Passed(index[0]),
             number => match Mistake::ALL.iter().copied().find(|m| *m as u32 == number) {
                 Some(mistake) => Judged::Failed(mistake, index[0]),
@@ -234,11 +283,11 @@ impl Mesh<'_> {
     }
 
     /// Moves the packet by one hop; its record is unchanged unless a letter is answered.
-    pub fn move_on(&self, packet: &mut Packet) -> Moved {
+    pub fn move_on(&self, network: Network, packet: &mut Packet) -> Moved {
         let last = packet.last.map_or(0, |h| h as u32);
         let (place, to) = (packet.place, packet.destination);
         let mut numbers = [place.row, place.column, last, to.row, to.column];
-        match answer(raw::move_on(self.columns, self.rows, self.map, &mut numbers)) {
+        match answer(raw::move_on(network as u32, self.columns, self.rows, self.map, &mut numbers)) {
             Err(why) => Moved::Refused(why),
             Ok(0) => Moved::Arrived,
             Ok(letter) => {

@@ -1,11 +1,12 @@
 //! The operations on 64 x 64 (turning: on 64 x 2), the proved library against rust/plain_mesh.rs. A case is a list of calls; each checks and
-//! marks its map. A table of sends is one call; singles-N sets it against as many single calls of the library. Letters to legs and back,
-//! against rust/plain_legs.rs, are one call and have no map.
+//! marks its map. All are on the first network but second-network, and picking, which routes on both. A table of sends is one call; singles-N
+//! sets it against as many single calls of the library. Letters to legs and back, against rust/plain_legs.rs, are one call and have no map.
 //!   operations CASE                   compares answers and output bytes; prints what was done, and then in one line the units of work in
 //!                                     the list and its nanoseconds, each call at its best, proved and plain
 //!   operations CASE proved|plain N    makes the first N calls and prints nothing, for counting instructions
-//! Cases: most-rounds, dense, judging, turning, either of these also with -nothing, one-map, many-maps, moving, table-N, singles-N, and by
-//! what is written legs-L and letters-L, where L is straight, mixed or turning. `speed/run` builds it and shows its figures.
+//! Cases: most-rounds, dense, judging, turning, either of these also with -nothing, one-map, second-network, many-maps, picking, moving,
+//! table-N, singles-N, and by what is written legs-L and letters-L, where L is straight, mixed or turning. `speed/run` builds it and shows its
+//! figures.
 #[path = "../rust/plain_legs.rs"]
 mod plain_legs;
 #[path = "../rust/plain_mesh.rs"]
@@ -21,8 +22,9 @@ const NODES: usize = 4096;
 
 type Trip = [(u32, u32); 2]; // source, destination
 
-/// All that a call is given stands here, so that the compiler cannot make the plain code for one size.
+/// All that a call is given stands here, so that the compiler cannot make the plain code for one size or one network.
 struct Case {
+    network: u32,
     columns: u32,
     rows: u32,
     maps: Vec<Vec<u8>>, // one, or one for each trip
@@ -31,6 +33,7 @@ struct Case {
     file: Vec<u8>,   // of the legs of these letters
     sends: Vec<u32>, // a table's
     room: usize,     // bytes of output
+    second: usize,   // the same of the second network, for a pick
     calls: usize,
     sides: [fn(&Case, &mut Lent) -> u32; 2], // one call: proved, plain
 }
@@ -39,8 +42,10 @@ struct Case {
 #[derive(PartialEq, Eq, Debug)]
 struct Lent {
     out: Vec<u8>,
+    second: Vec<u8>, // for a pick
     answers: Vec<u32>,
-    index: [u64; 1], // or the number of a table's letters, or of what is written
+    index: [u64; 1], // or the number of a table's letters, of a pick's, or of what is written
+    refusal: [u64; 1],
     packet: [u32; 5],
     trips: usize, // how many are begun
     moving: bool, // whether the last one goes on
@@ -49,7 +54,8 @@ struct Lent {
 impl Lent {
     fn new(case: &Case) -> Lent {
         let answers = vec![9; case.sends.len() / 4];
-        Lent { out: vec![9; case.room], answers, index: [9], packet: [0; 5], trips: 0, moving: false }
+        let (out, second) = (vec![9; case.room], vec![9; case.second]);
+        Lent { out, second, answers, index: [9], refusal: [9], packet: [0; 5], trips: 0, moving: false }
     }
 }
 
@@ -81,37 +87,50 @@ fn plain_mark(case: &Case, lent: &mut Lent) -> u32 {
 
 fn proved_judge(case: &Case, lent: &mut Lent) -> u32 {
     let [s, d] = case.trips[0];
-    raw::judge(case.columns, case.rows, case.map(), s, d, &case.letters, &mut lent.index)
+    raw::judge(case.network, case.columns, case.rows, case.map(), s, d, &case.letters, &mut lent.index)
 }
 
 fn plain_judge(case: &Case, lent: &mut Lent) -> u32 {
     let [s, d] = case.trips[0];
-    plain_mesh::judge(&plain(case, case.map()), s, d, &case.letters, &mut lent.index)
+    plain_mesh::judge(case.network, &plain(case, case.map()), s, d, &case.letters, &mut lent.index)
 }
 
 fn proved_route(case: &Case, lent: &mut Lent) -> u32 {
     let (map, [s, d]) = case.begin(lent);
-    raw::route(case.columns, case.rows, map, s, d, &mut lent.out)
+    raw::route(case.network, case.columns, case.rows, map, s, d, &mut lent.out)
 }
 
 fn plain_route(case: &Case, lent: &mut Lent) -> u32 {
     let (map, [s, d]) = case.begin(lent);
-    plain_mesh::route(&plain(case, map), s, d, &mut lent.out)
+    plain_mesh::route(case.network, &plain(case, map), s, d, &mut lent.out)
+}
+
+fn proved_pick(case: &Case, lent: &mut Lent) -> u32 {
+    let (map, [s, d]) = case.begin(lent);
+    raw::pick(case.columns, case.rows, map, s, d, &mut lent.out, &mut lent.second, &mut lent.index, &mut lent.refusal)
+}
+
+fn plain_pick(case: &Case, lent: &mut Lent) -> u32 {
+    let (map, [s, d]) = case.begin(lent);
+    plain_mesh::pick(&plain(case, map), s, d, &mut lent.out, &mut lent.second, &mut lent.index, &mut lent.refusal)
 }
 
 fn proved_table(case: &Case, lent: &mut Lent) -> u32 {
-    raw::route_batch(case.columns, case.rows, case.map(), &case.sends, &mut lent.answers, &mut lent.out, &mut lent.index)
+    let (answers, out, index) = (&mut lent.answers, &mut lent.out, &mut lent.index);
+    raw::route_batch(case.network, case.columns, case.rows, case.map(), &case.sends, answers, out, index)
 }
 
 fn plain_table(case: &Case, lent: &mut Lent) -> u32 {
-    plain_mesh::route_batch(&plain(case, case.map()), &case.sends, &mut lent.answers, &mut lent.out, &mut lent.index)
+    let (answers, out, index) = (&mut lent.answers, &mut lent.out, &mut lent.index);
+    plain_mesh::route_batch(case.network, &plain(case, case.map()), &case.sends, answers, out, index)
 }
 
 /// The table by single calls of the library.
 fn proved_singles(case: &Case, lent: &mut Lent) -> u32 {
     let mut at = 0;
     for (send, entry) in case.sends.chunks(4).zip(&mut lent.answers) {
-        *entry = raw::route(case.columns, case.rows, case.map(), (send[0], send[1]), (send[2], send[3]), &mut lent.out[at..]);
+        let (s, d) = ((send[0], send[1]), (send[2], send[3]));
+        *entry = raw::route(case.network, case.columns, case.rows, case.map(), s, d, &mut lent.out[at..]);
         at += if *entry < REFUSED { *entry as usize } else { 0 };
     }
     lent.index[0] = at as u64;
@@ -130,11 +149,11 @@ fn move_by(case: &Case, lent: &mut Lent, call: impl Fn(&[u8], &mut [u32]) -> u32
 }
 
 fn proved_move(case: &Case, lent: &mut Lent) -> u32 {
-    move_by(case, lent, |map, packet| raw::move_on(case.columns, case.rows, map, packet))
+    move_by(case, lent, |map, packet| raw::move_on(case.network, case.columns, case.rows, map, packet))
 }
 
 fn plain_move(case: &Case, lent: &mut Lent) -> u32 {
-    move_by(case, lent, |map, packet| plain_mesh::move_on(&plain(case, map), packet))
+    move_by(case, lent, |map, packet| plain_mesh::move_on(case.network, &plain(case, map), packet))
 }
 
 fn proved_to_legs(case: &Case, lent: &mut Lent) -> u32 {
@@ -230,8 +249,20 @@ fn turning_walk() -> Vec<u8> {
 }
 
 fn marking(map: Vec<u8>) -> Case {
-    let (trips, sides) = (vec![[(0, 63); 2]], [proved_mark as fn(&Case, &mut Lent) -> u32, plain_mark]);
-    Case { columns: 64, rows: 64, maps: vec![map], trips, letters: vec![], file: vec![], sends: vec![], room: NODES + 8, calls: 1, sides }
+    Case {
+        network: 1,
+        columns: 64,
+        rows: 64,
+        maps: vec![map],
+        trips: vec![[(0, 63); 2]],
+        letters: vec![],
+        file: vec![],
+        sends: vec![],
+        room: NODES + 8,
+        second: 0,
+        calls: 1,
+        sides: [proved_mark, plain_mark],
+    }
 }
 
 /// The faults are in rows 61 and 62, out of the walk's way.
@@ -248,6 +279,10 @@ fn routing(maps: Vec<Vec<u8>>, trips: Vec<Trip>) -> Case {
     Case { maps, calls: trips.len(), trips, sides: [proved_route, plain_route], ..marking(vec![]) }
 }
 
+fn one_map(rng: &mut Random, requests: usize) -> Case {
+    routing(vec![rng.map(200, 1)], (0..requests).map(|_| rng.trip()).collect())
+}
+
 /// From source to arrival, on routes that are served.
 fn moving(rng: &mut Random) -> Case {
     let map = rng.map(200, 1);
@@ -255,7 +290,7 @@ fn moving(rng: &mut Random) -> Case {
     let (mut letters, mut trips, mut calls) = (vec![], vec![], 0);
     while trips.len() < 50 {
         let trip = rng.trip();
-        if mesh.route(trip[0], trip[1], &mut letters).is_ok() {
+        if mesh.route(plain_mesh::Network::First, trip[0], trip[1], &mut letters).is_ok() {
             trips.push(trip);
             calls += letters.len() + 1;
         }
@@ -297,7 +332,9 @@ fn find_case(name: &str) -> Case {
         "judging-nothing" => judging(vec![]),
         "turning" => judging_turns(turning_walk()),
         "turning-nothing" => judging_turns(vec![]),
-        "one-map" => routing(vec![rng.map(200, 1)], (0..requests()).map(|_| rng.trip()).collect()),
+        "one-map" => one_map(&mut rng, requests()),
+        "second-network" => Case { network: 2, ..one_map(&mut rng, 2000) },
+        "picking" => Case { second: NODES + 8, sides: [proved_pick, plain_pick], ..one_map(&mut rng, 2000) },
         "many-maps" => {
             // from 7 to 1,000 faults
             let draw_map = |_| {
@@ -327,9 +364,11 @@ fn find_case(name: &str) -> Case {
 fn compare(name: &str, case: &Case) -> (String, u64) {
     let mut lents = [Lent::new(case), Lent::new(case)];
     let (mut served, mut hops, mut last) = (0, 0, 0);
+    let mut picked = [(0, 0); 2]; // how often each network, and its letters
     for call in 0..case.calls {
         for lent in &mut lents {
             lent.out.fill(9);
+            lent.second.fill(9);
         }
         let [proved, plain] = [0, 1].map(|side| case.sides[side](case, &mut lents[side]));
         assert_eq!(proved, plain, "{name}, call {call}");
@@ -337,6 +376,11 @@ fn compare(name: &str, case: &Case) -> (String, u64) {
         served += (proved < REFUSED) as u32;
         hops += if proved < REFUSED { proved } else { 0 };
         last = proved;
+        if let ("picking", 1..=2) = (name, proved) {
+            let (calls, letters) = &mut picked[proved as usize - 1];
+            *calls += 1;
+            *letters += lents[0].index[0];
+        }
     }
     let faults = case.maps[0].iter().filter(|&&x| x == 1).count();
     let (calls, maps, trips) = (case.calls, case.maps.len(), case.trips.len());
@@ -350,10 +394,16 @@ fn compare(name: &str, case: &Case) -> (String, u64) {
             let given = case.letters.len();
             (format!("judging on 64 x 2: {given} letters, two of three turn, both answer {last} at {}", lents[0].index[0]), given as u64)
         }
-        "one-map" => (
-            format!("route, one map, {faults} faults: {calls} requests, {served} served, {hops} hops, outputs equal"),
-            calls as u64,
-        ),
+        "one-map" | "second-network" => {
+            let network = if name == "one-map" { "" } else { " on the second network" };
+            let done = format!("route{network}, one map, {faults} faults: {calls} requests, {served} served, {hops} hops, outputs equal");
+            (done, calls as u64)
+        }
+        "picking" => {
+            let [(first, a), (second, b)] = picked;
+            let (served, hops) = (format!("first {first}, second {second}"), a + b);
+            (format!("pick, one map, {faults} faults: {calls} requests, {served}, {hops} hops, outputs equal"), calls as u64)
+        }
         "many-maps" => (format!("route, {maps} maps, a request each: {served} served, {hops} hops, outputs equal"), calls as u64),
         "table-300" | "table-65000" | "singles-300" | "singles-65000" => {
             let (sends, hops) = (case.sends.len() / 4, lents[0].index[0]);

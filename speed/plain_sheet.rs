@@ -1,7 +1,7 @@
 // The sheet program in plain Rust, for comparing speed: std only, written the direct way.
 #[path = "../rust/plain_mesh.rs"]
 mod plain_mesh;
-use plain_mesh::{check_map, Mesh};
+use plain_mesh::{check_map, Mesh, Network};
 use std::io::{Read, Write};
 
 fn numbers(text: &[u8], n: usize) -> Option<Vec<u32>> {
@@ -80,7 +80,7 @@ fn run(text: &[u8], out: &mut Vec<u8>) {
                 mesh = begin(columns, rows, &map, out);
             }
             let Some(m) = &mesh else { return };
-            match m.route((v[0], v[1]), (v[2], v[3]), &mut letters) {
+            match m.route(Network::First, (v[0], v[1]), (v[2], v[3]), &mut letters) {
                 Ok(()) if letters.is_empty() => out.extend_from_slice(b"ok 0\n"),
                 Ok(()) => {
                     write!(out, "ok {} ", letters.len()).unwrap();

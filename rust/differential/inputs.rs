@@ -1,4 +1,4 @@
-//! Random maps and places.
+//! Random maps, places and networks.
 use crate::lent::Input;
 use crate::plain_mesh::{Block, Checked, Mesh, Place};
 use crate::random::Random;
@@ -10,6 +10,7 @@ pub struct Case {
     pub rows: u32,
     pub map: Input<u8>,
     pub mesh: Checked,
+    pub widened: Checked, // with a column more in the west: there the first network goes as the second does here
     pub blocks: Vec<Block>,
 }
 
@@ -28,7 +29,8 @@ impl Case {
             blocks.sort();
             check_blocks(columns, map, mesh.marks(), &blocks);
         }
-        Case { columns, rows, map: Input::new(map), mesh, blocks }
+        let widened = mesh.as_ref().map(Mesh::widened).map_err(|why| *why);
+        Case { columns, rows, map: Input::new(map), mesh, widened, blocks }
     }
 
     /// The map's refusal, or 0.
@@ -103,6 +105,20 @@ fn check_blocks(columns: u32, map: &[u8], marks: &[u8], blocks: &[Block]) {
     }
     boxes.sort();
     assert_eq!(blocks, boxes, "blocks are the joined boxes");
+}
+
+/// The number of a network, seldom of none. Some of the others have the low bits of one.
+pub fn network(rng: &mut Random) -> u32 {
+    if rng.one_in(40) {
+        [0, 3, 4, 257, 65_538, 1 << 31 | 1, u32::MAX, rng.next() | 4][rng.below(8)]
+    } else {
+        1 + rng.below(2) as u32
+    }
+}
+
+/// A place of the mesh on the widened one.
+pub fn widened(place: Place) -> Place {
+    (place.0, place.1 + 1)
 }
 
 /// A row or a column, seldom off the mesh.

@@ -9,6 +9,7 @@ mod legs;
 mod lent;
 mod marking;
 mod moving;
+mod picking;
 #[path = "../plain_legs.rs"]
 mod plain_legs;
 #[path = "../plain_mesh.rs"]
@@ -17,7 +18,7 @@ mod random;
 mod routing;
 #[path = "../wrapper.rs"]
 mod wrapper;
-use inputs::{coordinate, place, Case};
+use inputs::{coordinate, network, place, Case};
 use random::Random;
 
 #[derive(Default)]
@@ -25,6 +26,7 @@ struct Tests {
     compared: lent::Compared,
     marking: marking::Marking,
     routing: routing::Routing,
+    picking: picking::Picking,
     batch: batch::Batch,
     judging: judging::Judging,
     moving: moving::Moving,
@@ -36,25 +38,30 @@ impl Tests {
     fn check(&mut self, rng: &mut Random, case: &Case, turns: usize) {
         let compared = &mut self.compared;
         self.marking.check(rng, case, compared);
-        self.batch.check(rng, case, 12, compared);
+        self.batch.check(network(rng), rng, case, 12, compared);
         for _ in 0..turns {
             let (s, d) = (place(rng, case), place(rng, case));
-            self.routing.check(rng, case, s, d, compared);
-            self.judging.check(rng, case, s, d, compared);
-            self.moving.check(rng, case, s, d, compared);
+            self.routing.check(network(rng), rng, case, s, d, compared);
+            self.picking.check(rng, case, s, d, compared);
+            self.judging.check(network(rng), rng, case, s, d, compared);
+            self.moving.check(network(rng), rng, case, s, d, compared);
             if rng.one_in(12) {
-                self.moving.check_list(case, s, d, compared);
+                self.moving.check_list(network(rng), case, s, d, compared);
             }
             let d = if rng.one_in(3) { s } else { (s.0, d.1) };
-            self.routing.check(rng, case, s, d, compared);
+            self.routing.check(network(rng), rng, case, s, d, compared);
         }
     }
 
-    /// Routes from the west edge to the east.
+    /// Routes from the west edge to the east, on the second network from one column on: there none is refused at the edge.
     fn check_long(&mut self, rng: &mut Random, case: &Case) {
         let (s, d) = (coordinate(rng, 64), coordinate(rng, 64));
-        self.routing.check(rng, case, (s, 0), (d, 62), &mut self.compared);
-        self.routing.check(rng, case, (s, 0), (s, 63), &mut self.compared);
+        for network in 1..=2 {
+            let source = (s, network - 1);
+            self.routing.check(network, rng, case, source, (d, 62), &mut self.compared);
+            self.routing.check(network, rng, case, source, (s, 63), &mut self.compared);
+        }
+        self.picking.check(rng, case, (s, 1), (d, 62), &mut self.compared);
     }
 
     /// Prints counts, and says whether every answer and every null pointer was met.
@@ -62,8 +69,8 @@ impl Tests {
         let lent::Compared { inputs, outputs, .. } = self.compared;
         println!("{outputs} bytes of outputs and {inputs} of inputs compared");
         let met = [
-            self.marking.report(), self.routing.report(), self.batch.report(), self.judging.report(), self.moving.report(),
-            self.legs.report(),
+            self.marking.report(), self.routing.report(), self.picking.report(), self.batch.report(), self.judging.report(),
+            self.moving.report(), self.legs.report(),
         ];
         met.iter().all(|&met| met)
     }
@@ -87,9 +94,9 @@ fn main() {
         let case = Case::bars(&mut rng);
         tests.check_long(&mut rng, &case);
     }
-    for _ in 0..20 {
+    for i in 0..20 {
         let case = Case::random(&mut rng, 64, 64);
-        tests.batch.check(&mut rng, &case, 8000, &mut tests.compared);
+        tests.batch.check(1 + i % 2, &mut rng, &case, 8000, &mut tests.compared);
     }
     let largest = tests.compared.requests - sizes;
     // small ones, where blocks, rings and edges are close together
