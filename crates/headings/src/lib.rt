@@ -91,16 +91,13 @@ pub fn letter_code(x: u8) -> u32
     one_if(x == b'N') + 2 * one_if(x == b'W') + 3 * one_if(x == b'S')
 }
 
-// The code of a direction: 0 E, 1 N, 2 W, 3 S.
+// The code of a direction: 0 E, 1 N, 2 W, 3 S. Its number counted from 0, with each bit changed where the one above it is set (a Gray code):
+// no table is looked up.
 pub fn code(h: Heading) -> u32
     ensures { λ k. ⌜ k ≡ code h ⌝ }
 {
-    match h {
-        Heading::East => return 0,
-        Heading::North => return 1,
-        Heading::South => return 3,
-        Heading::West => return 2,
-    }
+    let n = heading_number(h) - 1;
+    n ^ (n / 2)
 }
 
 // The direction of a code.

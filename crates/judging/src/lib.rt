@@ -1,5 +1,6 @@
 // The operation "Judge a hand-in".
 ghost use mathlib.Core.Path.{_≡_};
+ghost use Rattle.mesh.specs.declared.Network.the-variants.{First, Second};
 ghost use Rattle.mesh.specs.Mesh.{mesh};
 ghost use Rattle.mesh.specs.Hops.{at, tripOf};
 ghost use Rattle.mesh.specs.Judging.{judge, judgedVerdict, judgement};
@@ -57,6 +58,38 @@ fn judge_letters(
     Judged::Failed(Mistake::NotArrived, n)
 }
 
+// The same on either network by itself: where it is known, the loop has one number less to keep.
+fn judge_on_first(columns: u32, rows: u32, marks: &[u8], packet: Packet, letters: &[u8]) -> Judged
+    requires { ⌜ OnMesh columns rows (now marks) (packet .place .row .0) (packet .place .column .0) ⌝ }
+    ensures { λ x. ⌜ judgedVerdict x ≡ judge (tripOf First (mesh columns rows (now (marks .entry))) packet) (at packet) 0 (now (letters .entry)) ⌝ }
+{
+    judge_letters(Network::First, columns, rows, marks, packet, letters)
+}
+
+fn judge_on_second(columns: u32, rows: u32, marks: &[u8], packet: Packet, letters: &[u8]) -> Judged
+    requires { ⌜ OnMesh columns rows (now marks) (packet .place .row .0) (packet .place .column .0) ⌝ }
+    ensures { λ x. ⌜ judgedVerdict x ≡ judge (tripOf Second (mesh columns rows (now (marks .entry))) packet) (at packet) 0 (now (letters .entry)) ⌝ }
+{
+    judge_letters(Network::Second, columns, rows, marks, packet, letters)
+}
+
+fn judge_on(
+    network: Network,
+    columns: u32,
+    rows: u32,
+    marks: &[u8],
+    packet: Packet,
+    letters: &[u8],
+) -> Judged
+    requires { ⌜ OnMesh columns rows (now marks) (packet .place .row .0) (packet .place .column .0) ⌝ }
+    ensures { λ x. ⌜ judgedVerdict x ≡ judge (tripOf network (mesh columns rows (now (marks .entry))) packet) (at packet) 0 (now (letters .entry)) ⌝ }
+{
+    match network {
+        Network::First => return judge_on_first(columns, rows, marks, packet, letters),
+        Network::Second => return judge_on_second(columns, rows, marks, packet, letters),
+    }
+}
+
 // On a marking: refusals 6 and 7, then the letters.
 fn judge_marked(
     network: Network,
@@ -79,7 +112,7 @@ fn judge_marked(
         last: Last::None,
         destination: d,
     };
-    judge_letters(network, columns, rows, marks, fresh, letters)
+    judge_on(network, columns, rows, marks, fresh, letters)
 }
 
 // Judge a hand-in: passed with its length, or what is wrong first and where, or refused.

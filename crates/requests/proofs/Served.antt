@@ -1,6 +1,6 @@
 -- What refusal 9 comes to, as the code tests it, one part after another. Assumes nothing.
-use mathlib.Core.Path.{_≡_, refl}
-use mathlib.Core.Bool.{Bool, true, false, not, _||_}
+use mathlib.Core.Path.{_≡_, sym}
+use mathlib.Core.Bool.{Bool, true, false, not, _||_, or-false}
 use Prim.Native.Nat.{ℕ}
 use borrow.Author.Tests.{not-true, not-false, eq-eqb, ne-eqb}
 use lib.Dec.{eqb, ltb}
@@ -31,8 +31,4 @@ module _ (t : Trip) (r c : ℕ) {x : Bool} (ex : x ≡ t .west c) where
 
       pub shut-west : not y ≡ false → r ≡ t .R → ltb (t .C) c ≡ shutIn t r c || meetsEdge t r c
       unfolding shutIn meetsEdge blocked
-      shut-west m d = rw (← ex, n, ← ey, not-false y m, eq-eqb r (t .R) d, ne-eqb c 0 off) (by (ltb (t .C) c))
-        where
-          by : (b : Bool) → b ≡ b || false
-          by true = refl
-          by false = refl
+      shut-west m d = rw (← ex, n, ← ey, not-false y m, eq-eqb r (t .R) d, ne-eqb c 0 off) (sym (or-false (ltb (t .C) c)))

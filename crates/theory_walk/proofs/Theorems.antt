@@ -1,19 +1,21 @@
 -- The walk theorem and what goes with it: the walk by the hop rules arrives, lawfully and within the bound, unless the source is shut in or meets
 -- the edge. It is shown for columns of two kinds that alternate, whichever of them permits which turns; each network is an instance. Assumes nothing.
 use mathlib.Core.Path.{_≡_, refl}
-use mathlib.Core.Bool.{true, false, not, _||_}
+use mathlib.Core.Bool.{true, false, not, _||_, and-false, or-false}
 use mathlib.Core.Logic.{_↔_, _⊎_, inl, inr}
 use mathlib.Core.List.{List}
-use Prim.Native.Nat.{ℕ, suc, _≤_, _<_}
+use Prim.Native.Nat.{ℕ, zero, suc, _≤_, _<_}
 use native.Mathlib.Decide.{ℕ-discrete}
 use native.Mathlib.Omega.{arith}
-use borrow.Author.Tests.{eqb-true, eqb-false, ltb-true, not-true, not-false}
+use borrow.Author.Tests.{eqb-true, eqb-false, ne-eqb, ltb-true, not-true, not-false}
 use lib.Dec.{eqb, ltb}
 use lib.ListN.{length}
 use Rattle.mesh.specs.declared.Heading.the-variants.{West as W}
 use Rattle.mesh.specs.declared.Network.{Network}
+use Rattle.mesh.specs.declared.Network.the-variants.{First, Second}
 use Rattle.mesh.specs.declared.Place.{Place}
 use Rattle.mesh.specs.Mesh.{Mesh, mesh, onMesh, place}
+use Rattle.mesh.specs.Parity.{turnsWest}
 use Rattle.mesh.specs.Nodes.{bad}
 use Rattle.mesh.specs.Rounds.{marked}
 use Rattle.mesh.specs.Blocks.{Block, blocks}
@@ -25,6 +27,7 @@ use Rattle.mesh.specs.Routing.{hopsOf}
 use Rattle.mesh.proofs.Bools.{value, and-both, or-cases, or-none}
 use Rattle.mesh.proofs.Requests.{on-row, on-column, Placed, Request}
 use Rattle.mesh.proofs.Maps.{Accepted}
+use Rattle.mesh.proofs.Parity as parity
 use Rattle.mesh.proofs.Parity.{turns-change}
 use Rattle.theory_blocks.specs.Obstacles.{ObstaclesOf}
 use Rattle.theory_blocks.proofs.Near.{row-is-clear}
@@ -87,6 +90,20 @@ module _ {t : Trip} {bs : List Block} (course : Course t bs) (r c : ℕ) where
           let (free-west, off) = or-none (shutIn t r c) (meetsEdge t r c) e in
           let src : Served t r c = record { place = free; not-shut = free-west; off-edge = off } in
           absurd (fails-unlawful t (suc (bound t bs r c)) f (walk-arrives src _ (omega arith) .route))
+
+-- the networks differ in the columns that permit NW and SW alone, and there odd and even are exchanged
+pub networks-exchanged : (w : Mesh) (d : Place) (c : ℕ) → tripOn Second w d .west c ≡ not (tripOn First w d .west c)
+networks-exchanged w d c = parity.networks-exchanged c
+
+-- on the first network no source meets the edge, so that refusal 9 is there the condition of document 01
+pub first-off-edge : (w : Mesh) (d : Place) (r c : ℕ) → meetsEdge (tripOn First w d) r c ≡ false
+unfolding meetsEdge turnsWest
+first-off-edge w d r zero = refl
+first-off-edge w d r (suc c) = rw (ne-eqb (suc c) 0 (λ e. absurd (omega arith))) (and-false (not (turnsWest First (suc c))))
+
+pub first-refusal-9 : (w : Mesh) (s d : Place) → unserved First w s d ≡ shutIn (tripOn First w d) (s .row .0) (s .column .0)
+unfolding unserved
+first-refusal-9 w s d = rw (first-off-edge w d (s .row .0) (s .column .0)) (or-false (shutIn (tripOn First w d) (s .row .0) (s .column .0)))
 
 -- on a marked mesh, with the turns of a network
 module _ (n : Network) (w : Mesh) where

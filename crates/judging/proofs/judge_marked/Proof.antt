@@ -20,8 +20,8 @@ returns c = places-refused _ _ _ _ _ (c .before .before .before .check-places .e
 enum-told : tie.Need-enum-told
 enum-told c = search needs
 
-judge-letters-requires : tie.Need-judge-letters-requires
-judge-letters-requires c κs =
+judge-on-requires : tie.Need-judge-on-requires
+judge-on-requires c κs =
     let at-check = c .before .before in
     let sized = at-check .before .before .before .pre in
     let clear = told-clear _ (c .enum-told .given .1) (at-check .check-places .ensures) in
@@ -30,7 +30,7 @@ judge-letters-requires c κs =
 returns-2 : tie.Need-returns-2
 returns-2 c =
     let at-clear = c .before in
-    c .judge-letters .ensures ∙ letters-judged _ _ _ _ _ (at-clear .before .before .check-places .ensures) (at-clear .enum-told .given .1)
+    c .judge-on .ensures ∙ letters-judged _ _ _ _ _ (at-clear .before .before .check-places .ensures) (at-clear .enum-told .given .1)
 
 pub judge-marked-spec : {M : Type 1} → statement M
 judge-marked-spec =
@@ -40,5 +40,5 @@ judge-marked-spec =
     enum-known-checked
     returns
     enum-told
-    judge-letters-requires
+    judge-on-requires
     returns-2)
