@@ -20,7 +20,7 @@ use Rattle.mesh.specs.declared.Packet.{Packet}
 use Rattle.mesh.specs.Mesh.{Mesh}
 use Rattle.mesh.specs.Headings.{named}
 use Rattle.mesh.specs.Tests.{first}
-use Rattle.mesh.specs.Numbers.{mistakeNumber, testedNumber}
+use Rattle.mesh.specs.Numbers.{mistakeNumber}
 use Rattle.mesh.specs.Rules.{Trip, atDestination}
 use Rattle.mesh.specs.Hops.{At, stays, moved, at, tripOf, isThere}
 use Rattle.mesh.specs.Walk.{arrived}

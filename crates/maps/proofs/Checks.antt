@@ -1,22 +1,15 @@
 -- Where a fault is allowed, and what refusals 1 to 3 leave, case by case. Assumes nothing.
-use mathlib.Core.Path.{_≡_, refl}
+use mathlib.Core.Path.{_≡_}
 use mathlib.Core.Bool.{Bool, false, not, and-false}
 use mathlib.Core.List.{List}
-use Prim.Native.Nat.{ℕ, zero, suc, _+_, _-_, _*_, _/_, _%_, _≤_, _<_}
+use Prim.Native.Nat.{ℕ, _+_, _*_, _/_, _%_, _≤_, _<_}
 use native.Mathlib.Omega.{arith}
 use borrow.Author.Tests.{lt-ltb, le-ltb, le-leb, lt-leb, ne-eqb}
-use lib.Dec.{eqb, ltb, eqb·suc-zero}
-use lib.ListN.{length, getD}
-use Rattle.mesh.specs.declared.Heading.{Heading}
-use Rattle.mesh.specs.declared.Heading.the-variants.{East as E, North as N, South as S, West as W}
-use Rattle.mesh.specs.Mesh.{mesh, onMesh}
-use Rattle.mesh.specs.Nodes.{isBad, bad, ahead}
+use lib.Dec.{ltb}
+use Rattle.mesh.specs.Nodes.{isBad}
 use Rattle.mesh.specs.Maps.{allowed, badSize, badLength, misplacedAt}
-use Rattle.mesh.specs.Requests.{offMesh}
-use Rattle.mesh.specs.declared.Place.{Place}
 use Rattle.mesh.proofs.Maps.{good-size, good-length}
-use Rattle.mesh.proofs.Requests.{on-row, on-column}
-use Rattle.mesh.proofs.Index.{index-within, few-nodes, place-of}
+use Rattle.mesh.proofs.Index.{place-of}
 use Rattle.nodes.specs.Sized.{Sized}
 use Rattle.nodes.proofs.Lookup.{isBad-test}
 

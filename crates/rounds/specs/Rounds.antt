@@ -6,8 +6,7 @@ use Prim.Native.Nat.{ℕ, _+_, _-_, _*_, _≤_, _<_}
 use lib.ListN.{length, getD}
 use Rattle.mesh.specs.Mesh.{Mesh}
 use Rattle.nodes.specs.Rounds.{nodeAfter}
-use Rattle.mesh.specs.Nodes.{bad, unsafe}
-use Rattle.mesh.specs.Rounds.{become, round}
+use Rattle.mesh.specs.Rounds.{round}
 
 -- the first k nodes of row r are those after a round, and what stands before the row is as it was
 pub record RowAfter (w : Mesh) (r k : ℕ) (before after : List ℕ) : Type 0 where

@@ -11,8 +11,6 @@ use Rattle.mesh.specs.declared.Routed.the-variants.{Refused}
 use Rattle.mesh.specs.declared.Network.{Network}
 use Rattle.mesh.specs.declared.Place.{Place}
 use Rattle.mesh.specs.Mesh.{mesh}
-use Rattle.mesh.specs.Tests.{first}
-use Rattle.mesh.specs.Numbers.{number}
 use Rattle.mesh.specs.Rounds.{marked}
 use Rattle.mesh.specs.Routing.{sendTests, routeRefusal, Routes}
 use Rattle.mesh.proofs.Numbers.{answer-refused, written-refused}

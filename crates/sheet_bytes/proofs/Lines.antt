@@ -1,7 +1,7 @@
 -- A newline ends the line that is held, or the one that stands there whole. Assumes nothing.
 use mathlib.Core.Path.{_≡_, refl}
 use mathlib.Core.List.{List, []}
-use Prim.Native.Nat.{ℕ, suc, _+_, _≤_, _<_}
+use Prim.Native.Nat.{ℕ, _+_, _≤_, _<_}
 use native.Mathlib.Numerals.{add-one}
 use native.Mathlib.Omega.{arith}
 use borrow.Author.Tests.{eq-eqb, ne-eqb, le-leb, lt-leb}
@@ -10,8 +10,7 @@ use lib.Seq.{take-suc-set, length-take-le, take-suc}
 use Rattle.sheet_words.specs.declared.Command.{Command}
 use Rattle.sheet_words.specs.declared.Command.the-variants.{Malformed}
 use Rattle.sheet_words.specs.Words.{commandAt}
-use Rattle.theory_sheet.specs.Sheet.{State}
-use Rattle.theory_sheet.specs.Reader.{reading, afterLine, feed, feedAll}
+use Rattle.theory_sheet.specs.Reader.{reading, feed}
 use Rattle.theory_sheet.proofs.Lines.{unbroken-take}
 use Rattle.theory_sheet.proofs.Feeding.{fed-one, line-fed}
 use Rattle.sheet_bytes.specs.declared.Read.the-variants.{Line, Part}

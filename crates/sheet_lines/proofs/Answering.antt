@@ -26,8 +26,7 @@ use Rattle.sheet_state.specs.declared.Sheet.{Sheet}
 use Rattle.sheet_state.specs.declared.Says.{Says}
 use Rattle.sheet_state.specs.declared.Says.the-variants.{BadLine, Refusal, Blocks, Nothing}
 use Rattle.sheet_state.specs.declared.Change.{Change}
-use Rattle.sheet_state.specs.Keeping.{mapOf, stateOf, Ready, saysLine, saysEnds, saysNumber, stepOf, Changes}
-use Rattle.sheet_lines.specs.declared.Answered.{Answered}
+use Rattle.sheet_state.specs.Keeping.{mapOf, stateOf, saysLine, saysEnds, saysNumber, stepOf, Changes}
 use Rattle.sheet_lines.specs.Answers.{sendRoom, answerRoom, Answers}
 
 says-short : (n : ℕ) (x : Says) → n < 100000 → saysNumber x < 100000 → length (saysLine n x) ≤ 13

@@ -1,15 +1,15 @@
 -- Bytes taken one line or byte after another are fed as the whole. Assumes nothing.
 use mathlib.Core.Path.{_≡_, refl, sym, ap, _∙_}
-use mathlib.Core.Bool.{Bool, true, false, not, _&&_}
+use mathlib.Core.Bool.{Bool, true, false}
 use mathlib.Core.List.{List}
 use Prim.Native.Nat.{ℕ, _+_, _-_, _≤_, _<_}
 use native.Mathlib.Omega.{arith}
 use borrow.Author.Tests.{ltb-true, lt-ltb, leb-true, leb-false, not-true}
-use lib.Dec.{leb, ltb}
+use lib.Dec.{leb}
 use lib.ListN.{length, take}
 use lib.Seq.{length-take-le}
 use Rattle.mesh.proofs.Bools.{and-both}
-use Rattle.buffers.proofs.Over.{puts-nothing, puts-append, over-length}
+use Rattle.buffers.proofs.Over.{puts-nothing, puts-append}
 use Rattle.theory_walk.specs.Claims.{mostHops}
 use Rattle.theory_sheet.specs.Reader as theory
 use Rattle.theory_sheet.specs.Reader.{reading, feedAll}

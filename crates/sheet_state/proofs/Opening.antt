@@ -16,7 +16,6 @@ use Rattle.theory_blocks.proofs.Marking.{marked-length}
 use Rattle.theory_blocks.proofs.Listed.{blocks-within}
 use Rattle.theory_blocks.proofs.Theorems.{obstacles}
 use Rattle.nodes.specs.Sized.{Sized}
-use Rattle.blocks.specs.Marking.{Marking}
 use Rattle.theory_sheet.specs.declared.Phase.the-variants.{Faults, Sends}
 use Rattle.theory_sheet.specs.Sheet.{isMisplaced, blocksLine, opening}
 use Rattle.sheet_state.specs.declared.Sheet.{Sheet}

@@ -1,7 +1,7 @@
 -- The cases of "Move on". Assumes nothing.
 use mathlib.Core.Path.{_≡_, sym, _∙_}
 use mathlib.Core.Logic.{inl, inr}
-use mathlib.Core.Bool.{true, false, cond}
+use mathlib.Core.Bool.{true, false}
 use mathlib.Core.List.{List}
 use Prim.Native.Nat.{ℕ}
 use lib.ListN.{length, take}
@@ -26,7 +26,7 @@ use Rattle.mesh.specs.Hops.{lawful, at, tripOf, isThere}
 use Rattle.mesh.specs.Walk.{hopAt}
 use Rattle.mesh.specs.Tests.{first}
 use Rattle.mesh.specs.Requests.{tripTests}
-use Rattle.mesh.specs.Moving.{movedTold, moveRefusal, hopFrom, mayHop, told, recordAfter, MovesOn}
+use Rattle.mesh.specs.Moving.{moveRefusal, hopFrom, mayHop, told, recordAfter, MovesOn}
 use Rattle.mesh.proofs.Bools.{value}
 use Rattle.mesh.proofs.Numbers.{number-some, mistake-some}
 use Rattle.theory_judging.proofs.Theorems.{letter-lawful}

@@ -8,7 +8,7 @@ use borrow.Author.Tests.{lt-ltb, le-ltb}
 use Rattle.mesh.specs.declared.Network.{Network}
 use Rattle.mesh.specs.declared.Network.the-variants.{First, Second}
 use Rattle.mesh.specs.Numbers.{answer}
-use Rattle.theory_pick.specs.Picking.{Pick, route, none, better}
+use Rattle.theory_pick.specs.Picking.{route, none, better}
 
 -- different picks
 first-second {ℓ} : {A : Type ℓ} {m n : ℕ} → route First m ≡ route Second n → A

@@ -21,7 +21,7 @@ use Rattle.theory_demands.proofs.Requests.{passed-9}
 use Rattle.theory_demands.proofs.Routes.{room-none, served-clear}
 use Rattle.theory_demands.proofs.Theorems.{routes-are-short, route-is-judged}
 use Rattle.theory_pick.specs.declared.Picked.{Picked}
-use Rattle.theory_pick.specs.Picking.{route, none, picked, PicksRoute, part, lentNumber, HandsBack}
+use Rattle.theory_pick.specs.Picking.{route, none, picked, PicksRoute, part, HandsBack}
 use Rattle.theory_pick.proofs.Better.{first-better, second-better, neither-better, first-served, second-served}
 
 module _ (columns rows : ℕ) (map : List ℕ) (s d : Place) where

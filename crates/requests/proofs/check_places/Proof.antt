@@ -1,6 +1,5 @@
 -- Source and destination are tested in turn for refusal 6, then for 7; the first test that holds is the answer. Assumes nothing.
 use borrow.Author.Needs.{needs}
-use Rattle.mesh.specs.Numbers.{number, checkedNumber}
 use Rattle.requests.proofs.Refused.{source-off, destination-off, source-in, destination-in, none-applies}
 use Rattle.requests.proofs.check_places.Statement.{statement}
 use Rattle.requests.proofs.check_places.Tie as tie

@@ -1,6 +1,6 @@
 -- Refusals 6 to 8 are as they were told; where none applies the source is on the mesh, and refusal 9 decides. Assumes nothing.
 use borrow.Author.Needs.{needs}
-use Rattle.mesh.specs.Requests.{requestTests, tripTests}
+use Rattle.mesh.specs.Requests.{tripTests}
 use Rattle.mesh.proofs.Tests.{told-clear, clear-before}
 use Rattle.mesh.proofs.Requests.{placed}
 use Rattle.nodes.proofs.Lookup.{on-mesh}

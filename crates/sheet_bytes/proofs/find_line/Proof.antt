@@ -1,5 +1,4 @@
 -- None of the bytes passed is a newline. Assumes nothing.
-use mathlib.Core.Path.{refl}
 use Prim.Native.Nat.{_-_}
 use native.Mathlib.Omega.{arith}
 use Rattle.sheet_bytes.proofs.Finding.{Seeking, not-found, seeking-first, seeking-on, found}
