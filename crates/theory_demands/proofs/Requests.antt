@@ -1,6 +1,6 @@
 -- What it says that none of a request's refusals applies. Assumes nothing.
 use mathlib.Core.Path.{_≡_, sym, _∙_}
-use mathlib.Core.Bool.{false}
+use mathlib.Core.Bool.{false, cond}
 use mathlib.Core.List.{List, _++_}
 use Prim.Native.Nat.{ℕ}
 use Rattle.mesh.specs.declared.Network.{Network}
@@ -10,7 +10,7 @@ use Rattle.mesh.specs.Tests.{Test, first}
 use Rattle.mesh.specs.Rounds.{marked}
 use Rattle.mesh.specs.Blocks.{blocks}
 use Rattle.mesh.specs.Maps.{mapTests}
-use Rattle.mesh.specs.Requests.{inBlock, blockNearInRow, placeTests, tripTests, requestTests}
+use Rattle.mesh.specs.Requests.{inBlock, blockNearInRow, unserved, placeTests, tripTests, requestTests}
 use Rattle.mesh.proofs.Tests.{None, first-none, clear-before, clear-next}
 use Rattle.mesh.proofs.Maps.{map-numbered, accepted}
 use Rattle.mesh.proofs.Requests.{on-row, on-column, Placed, trip-numbered, placed, request}
@@ -54,6 +54,14 @@ module _ (columns rows : ℕ) (map : List ℕ) (s d : Place) where
       let (clear, none) = map-passes (requestTests network w s d) h in
       let q = request w s d none in
       record { passed = record { map-passes = clear; placed = q .placed; row-clear = q .row-clear }; none = none }
+
+  -- where refusals 1 to 8 let it pass, 9 decides
+  pub nine-decides : (network : Network) → refusal1to8 columns rows map s d ≡ 0 →
+      requestRefusal network columns rows map s d ≡ cond (unserved network w s d) 9 0
+  unfolding refusal1to8 requestRefusal requestTests first
+  nine-decides network h =
+      let (clear, none) = map-passes (tripTests w s d) h in
+      clear-next (mapTests columns rows map) _ (map-numbered columns rows map) clear ∙ clear-next (tripTests w s d) _ (trip-numbered w s d) none
 
 module _ {columns rows : ℕ} {map : List ℕ} {s d : Place} (p : Passed columns rows map s d) where
   pub course-of : (network : Network) → Course (tripTo network columns rows map d) (blocks (marked (mesh columns rows map)))

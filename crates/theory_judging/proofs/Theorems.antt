@@ -52,7 +52,7 @@ module _ (west : ℕ → Bool) (c : ℕ) (l : Last) (h : Heading) where
   pub reversal-breaks-none : turnsBack l h ≡ true → hopBreaks west c l h ≡ Neither
   reversal-breaks-none = reversal-keeps west c l h
 
--- Of any mesh with its bad nodes, either network, and any packet p on it.
+-- Of any mesh with its bad nodes, either parity, and any packet p on it.
 module _ (t : Trip) (p : At) where
   -- a letter has no mistake exactly if its hop is lawful
   pub letter-lawful : (h : Heading) → letterMistake t p (Hop h) ≡ 0 ↔ lawful t p h ≡ true

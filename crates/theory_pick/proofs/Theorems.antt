@@ -1,6 +1,6 @@
 -- What is shown of a pick between the routes of both networks. Assumes nothing.
 use mathlib.Core.Path.{_≡_, _∙_}
-use mathlib.Core.Logic.{_↔_, _≢_}
+use mathlib.Core.Logic.{_↔_, _≢_, inl, inr}
 use mathlib.Core.List.{List, []}
 use Prim.Native.Nat.{ℕ, suc, _≤_, _<_}
 use native.Mathlib.Omega.{arith}
@@ -10,14 +10,19 @@ use Rattle.mesh.specs.declared.Heading.{Heading}
 use Rattle.mesh.specs.declared.Network.{Network}
 use Rattle.mesh.specs.declared.Network.the-variants.{First, Second}
 use Rattle.mesh.specs.declared.Place.{Place}
+use Rattle.mesh.specs.Mesh.{Mesh, mesh}
 use Rattle.mesh.specs.Headings.{letters}
 use Rattle.mesh.specs.Numbers.{written}
+use Rattle.mesh.specs.Rounds.{marked}
+use Rattle.mesh.specs.Requests.{unserved}
 use Rattle.mesh.specs.Routing.{routeRefusal, routeOutput}
 use Rattle.mesh.specs.Judging.{passed, judgement}
+use Rattle.mesh.proofs.Bools.{value}
 use Rattle.mesh.proofs.Lists.{letters-length}
 use Rattle.theory_walk.specs.Claims.{mostHops}
-use Rattle.theory_demands.specs.Demand3.{requestRefusal, hops}
-use Rattle.theory_demands.proofs.Requests.{passed-9}
+use Rattle.theory_walk.proofs.Theorems.{one-network-serves}
+use Rattle.theory_demands.specs.Demand3.{refusal1to8, requestRefusal, hops}
+use Rattle.theory_demands.proofs.Requests.{passed-9, nine-decides}
 use Rattle.theory_demands.proofs.Routes.{room-none, served-clear}
 use Rattle.theory_demands.proofs.Theorems.{routes-are-short, route-is-judged}
 use Rattle.theory_pick.specs.declared.Picked.{Picked}
@@ -31,6 +36,9 @@ module _ (columns rows : ℕ) (map : List ℕ) (s d : Place) where
 
   abbrev pub hopsOn : Network → List Heading
   hopsOn network = hops network columns rows map s d
+
+  abbrev w : Mesh
+  w = marked (mesh columns rows map)
 
   -- a served network's letters stand at the start of its buffer, and what lies after them is as it was
   stands : (network : Network) (out : List ℕ) → refusalOn network out ≡ 0 →
@@ -112,3 +120,12 @@ module _ (columns rows : ℕ) (map : List ℕ) (s d : Place) where
         by : (network : Network) → requestRefusal network columns rows map s d ≡ 0 → ⊥
         by First clear = let z = served First first one clear in absurd (omega (arith, picks-none .0 e .0))
         by Second clear = picks-none .0 e .1 (served Second second two clear)
+
+    -- and every request that refusals 1 to 8 let pass is served: no source is refused 9 on both networks
+    pub pick-serves : mostHops ≤ length first → mostHops ≤ length second → refusal1to8 columns rows map s d ≡ 0 →
+        {k : ℕ} → picked columns rows map s d first second ≢ none (suc k)
+    pick-serves one two passes e =
+        elim (value (unserved First w s d)) [
+          | inr f ↦ room-for-pick one two e First (nine-decides columns rows map s d First passes ∙ rw f)
+          | inl f ↦ room-for-pick one two e Second (nine-decides columns rows map s d Second passes ∙ rw (one-network-serves w s d f))
+        ]

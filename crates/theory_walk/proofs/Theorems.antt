@@ -1,6 +1,6 @@
 -- The walk theorem and what goes with it: the walk by the hop rules arrives, lawfully and within the bound, unless the source is shut in or meets
 -- the edge. It is shown for columns of two kinds that alternate, whichever of them permits which turns; each network is an instance. Assumes nothing.
-use mathlib.Core.Path.{_≡_, refl}
+use mathlib.Core.Path.{_≡_, refl, _∙_}
 use mathlib.Core.Bool.{true, false, not, _||_, and-false, or-false}
 use mathlib.Core.Logic.{_↔_, _⊎_, inl, inr}
 use mathlib.Core.List.{List}
@@ -24,7 +24,7 @@ use Rattle.mesh.specs.Hops.{fresh}
 use Rattle.mesh.specs.Walk.{walk, shutIn, meetsEdge, bound}
 use Rattle.mesh.specs.Requests.{offMesh, inBlock, blockNearInRow, unserved}
 use Rattle.mesh.specs.Routing.{hopsOf}
-use Rattle.mesh.proofs.Bools.{value, and-both, or-cases, or-none}
+use Rattle.mesh.proofs.Bools.{true-false, value, and-both, or-cases, or-none}
 use Rattle.mesh.proofs.Requests.{on-row, on-column, Placed, Request}
 use Rattle.mesh.proofs.Maps.{Accepted}
 use Rattle.mesh.proofs.Parity as parity
@@ -104,6 +104,24 @@ first-off-edge w d r (suc c) = rw (ne-eqb (suc c) 0 (λ e. absurd (omega arith))
 pub first-refusal-9 : (w : Mesh) (s d : Place) → unserved First w s d ≡ shutIn (tripOn First w d) (s .row .0) (s .column .0)
 unfolding unserved
 first-refusal-9 w s d = rw (first-off-edge w d (s .row .0) (s .column .0)) (or-false (shutIn (tripOn First w d) (s .row .0) (s .column .0)))
+
+-- a source that refusal 9 refuses is in a column that forbids NW and SW, so on the other network 9 lets it pass
+unserved-column : (n : Network) (w : Mesh) (s d : Place) → unserved n w s d ≡ true → turnsWest n (s .column .0) ≡ false
+unfolding unserved shutIn meetsEdge
+unserved-column n w s d e =
+    elim (or-cases (shutIn (tripOn n w d) (s .row .0) (s .column .0)) _ e) [
+      | inl f ↦ not-true _ (and-both {a = not (turnsWest n (s .column .0))} f .0)
+      | inr f ↦ not-true _ (and-both {a = not (turnsWest n (s .column .0))} f .0)
+    ]
+
+pub one-network-serves : (w : Mesh) (s d : Place) → unserved First w s d ≡ true → unserved Second w s d ≡ false
+one-network-serves w s d e =
+    elim (value (unserved Second w s d)) [
+      | inr f ↦ f
+      | inl f ↦
+          let permits : turnsWest Second (s .column .0) ≡ true = parity.networks-exchanged (s .column .0) ∙ rw (unserved-column First w s d e) in
+          true-false permits (unserved-column Second w s d f)
+    ]
 
 -- on a marked mesh, with the turns of a network
 module _ (n : Network) (w : Mesh) where
