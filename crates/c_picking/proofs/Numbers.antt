@@ -17,8 +17,7 @@ picks es ed {letters = letters} {refusal = refusal} r m el ek er e =
     rw (← es, ← ed)
     record {
       picks = e ∙ ap pickNetwork (m .picks);
-      writes-first = m .writes-first;
-      writes-second = m .writes-second;
+      writes = m .writes;
       counts = el ∙ ap (λ p. putHops p letters) (m .picks);
       lends = er ∙ ap (λ n. putFirst n refusal) (ek ∙ ap lentNumber (m .picks));
     }

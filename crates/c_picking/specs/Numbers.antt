@@ -2,11 +2,11 @@
 use mathlib.Core.Path.{_≡_}
 use mathlib.Core.List.{List}
 use Prim.Native.Nat.{ℕ}
-use Rattle.mesh.specs.declared.Network.the-variants.{First, Second}
+use Rattle.mesh.specs.declared.Network.{Network}
 use Rattle.mesh.specs.declared.Place.{Place}
 use Rattle.mesh.specs.Numbers.{networkNumber}
 use Rattle.mesh.specs.Routing.{routeOutput}
-use Rattle.theory_pick.specs.Picking.{Pick, route, none, picked, lentNumber}
+use Rattle.theory_pick.specs.Picking.{Pick, route, none, picked, bufferOf, lentNumber}
 use Rattle.buffers.specs.Over.{putFirst}
 
 -- the number of the network whose route is picked; 0 where none is
@@ -23,7 +23,6 @@ putHops (none k) letters = letters
 -- letters, and first in refusal 0 or the refusal
 pub record PicksInNumbers (columns rows : ℕ) (map : List ℕ) (s d : Place) (first second letters refusal : List ℕ) (x : ℕ) (first′ second′ letters′ refusal′ : List ℕ) : Type 0 where
   pub picks : x ≡ pickNetwork (picked columns rows map s d first second)
-  pub writes-first : first′ ≡ routeOutput First columns rows map s d first
-  pub writes-second : second′ ≡ routeOutput Second columns rows map s d second
+  pub writes : (network : Network) → bufferOf network first′ second′ ≡ routeOutput network columns rows map s d (bufferOf network first second)
   pub counts : letters′ ≡ putHops (picked columns rows map s d first second) letters
   pub lends : refusal′ ≡ putFirst (lentNumber (picked columns rows map s d first second)) refusal

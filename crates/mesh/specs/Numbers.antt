@@ -53,6 +53,10 @@ abbrev pub networkNumber : Network → ℕ
 networkNumber First = 1
 networkNumber Second = 2
 
+-- the same network
+abbrev pub sameNetwork : Network → Network → Bool
+sameNetwork m n = eqb (networkNumber m) (networkNumber n)
+
 -- it is the number of a network
 unfoldable pub isNetwork : ℕ → Bool
 isNetwork k = eqb k 1 || eqb k 2

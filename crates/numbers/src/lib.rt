@@ -35,10 +35,7 @@ pub const NO_REQUEST: u32 = 65536;
 pub fn is_network(n: u32) -> bool
     ensures { λ x. ⌜ x ≡ isNetwork n ⌝ }
 {
-    if n == 1 {
-        return true;
-    }
-    n == 2
+    n == 1 || n == 2
 }
 
 // The network of that number: 1 the first, 2 the second.

@@ -21,8 +21,8 @@ use Rattle.marking.specs.Marks.{MarksMap}
 use Rattle.routing.proofs.Mapped.{map-refused, marked-routed}
 use Rattle.theory_pick.specs.declared.Picked.{Picked}
 use Rattle.theory_pick.specs.declared.Picked.the-variants.{Route, Refused}
-use Rattle.theory_pick.specs.Picking.{route, pickOf, better, picked, part, lentNumber, PicksRoute, HandsBack}
-use Rattle.theory_pick.proofs.Better.{first-served, second-served}
+use Rattle.theory_pick.specs.Picking.{pickOf, better, bufferOf, part, lentNumber, PicksRoute, HandsBack}
+use Rattle.theory_pick.proofs.Theorems.{outputs, picked-is-served}
 use Rattle.picking.specs.Marked.{PicksOn}
 
 module _ (columns rows : ℕ) (map : List ℕ) (s d : Place) (first second : List ℕ) {x : Checked} {marks : List ℕ} (m : MarksMap columns rows map x marks) where
@@ -31,14 +31,14 @@ module _ (columns rows : ℕ) (map : List ℕ) (s d : Place) (first second : Lis
   both-refused e =
       let one = map-refused First columns rows map s d first m e in
       let two = map-refused Second columns rows map s d second m e in
-      record { picks = rw (← one .answers, ← two .answers); writes-first = one .writes; writes-second = two .writes }
+      record { picks = rw (← one .answers, ← two .answers); writes = λ network. rw (← one .writes, ← two .writes) at (outputs columns rows map s d first second network) }
 
   pub marked-picked : (e : x ≡ checks.Clear) {r : Picked} {first′ second′ : List ℕ} →
       PicksOn (mesh columns rows (take (length map) marks)) s d first second r first′ second′ → PicksRoute columns rows map s d first second r first′ second′
   marked-picked e p =
       let one = marked-routed First columns rows map s d first m e (p .routes-first) in
       let two = marked-routed Second columns rows map s d second m e (p .routes-second) in
-      record { picks = p .picks ∙ rw (one .answers, two .answers); writes-first = one .writes; writes-second = two .writes }
+      record { picks = p .picks ∙ rw (one .answers, two .answers); writes = λ network. rw (one .writes, two .writes) (outputs columns rows map s d first second network) }
 
 -- a served network's letters are in its buffer
 within : (network : Network) (columns rows : ℕ) (map : List ℕ) (s d : Place) (out : List ℕ) → routeRefusal network columns rows map s d out ≡ 0 →
@@ -52,32 +52,21 @@ module _ {columns rows : ℕ} {map : List ℕ} {s d : Place} {first second : Lis
     (does : PicksRoute columns rows map s d first second r first′ second′) where
   -- the part that is handed back is there
   module _ {network : Network} {n : ℕ} (told : r ≡ Route network n) where
-    of-network : (m : Network) → network ≡ m → picked columns rows map s d first second ≡ route m n
-    of-network m e = sym (does .picks) ∙ rw (told, e)
-
-    pub first-within : network ≡ First → n ≤ length first′
-    first-within e =
-        let (served, is-n) = first-served (routeRefusal First columns rows map s d first) _ (routeRefusal Second columns rows map s d second) _ (of-network First e) in
-        rw (is-n, does .writes-first) (within First columns rows map s d first served)
-
-    pub second-within : network ≡ Second → n ≤ length second′
-    second-within e =
-        let (served, is-n) = second-served (routeRefusal First columns rows map s d first) _ (routeRefusal Second columns rows map s d second) _ (of-network Second e) in
-        rw (is-n, does .writes-second) (within Second columns rows map s d second served)
+    pub part-within : {m : Network} → network ≡ m → n ≤ length (bufferOf m first′ second′)
+    part-within {m} e =
+        let (served, is-n) = picked-is-served columns rows map s d first second m {n = n} (sym (does .picks) ∙ rw (told, e)) in
+        rw (is-n, does .writes m) (within m columns rows map s d _ served)
 
   -- and holds what is promised
   hands-back : {handed : List ℕ} {number : ℕ} → handed ≡ part (pickOf r) first′ second′ → number ≡ lentNumber (pickOf r) →
       HandsBack columns rows map s d first second handed number
   hands-back h l =
-      record { hands = h ∙ rw (does .picks, does .writes-first, does .writes-second); lends = l ∙ rw (does .picks) }
+      record { hands = h ∙ rw (does .picks, does .writes First, does .writes Second); lends = l ∙ rw (does .picks) }
 
-  pub first-handed : {network : Network} {n : ℕ} → r ≡ Route network n → network ≡ First → HandsBack columns rows map s d first second (take n first′) 0
+  pub route-handed : {network m : Network} {n : ℕ} → r ≡ Route network n → network ≡ m →
+      HandsBack columns rows map s d first second (take n (bufferOf m first′ second′)) 0
   unfolding part
-  first-handed told e = hands-back (rw (told, e)) (rw told)
-
-  pub second-handed : {network : Network} {n : ℕ} → r ≡ Route network n → network ≡ Second → HandsBack columns rows map s d first second (take n second′) 0
-  unfolding part
-  second-handed told e = hands-back (rw (told, e)) (rw told)
+  route-handed told e = hands-back (rw (told, e)) (rw told)
 
   pub none-handed : {why : Refusal} {k : ℕ} → r ≡ Refused why → k ≡ number why → HandsBack columns rows map s d first second [] k
   unfolding part

@@ -1,5 +1,6 @@
 // The bench cases of document 01, starred ones included, and some more on moving on, judging, destinations near a block and the second network.
-// Prints each request with its answer; the file stdout has the answers of the paper. Meshes have 10 columns and 8 rows, and a place is one number, as 34 for (3,4).
+// Prints each request with its answer; the file stdout has the answers of the paper. Meshes have 10 columns and 8 rows, and a place is one number,
+// as 34 for (3,4).
 mod judging_cases;
 mod marking_cases;
 mod moving_cases;

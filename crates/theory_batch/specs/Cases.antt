@@ -49,8 +49,8 @@ table = 1 ∷ 5 ∷ 6 ∷ 5 ∷ 3 ∷ 0 ∷ 3 ∷ 9 ∷ 1 ∷ 1 ∷ 4 ∷ 6 ∷ 
 unfoldable pub near : List ℕ
 near = 1 ∷ 5 ∷ 5 ∷ 4 ∷ 1 ∷ 5 ∷ 3 ∷ 3 ∷ 1 ∷ 5 ∷ 4 ∷ 7 ∷ 6 ∷ 4 ∷ 2 ∷ 5 ∷ []
 
--- With room for all; where the second doesn't fit and the last, which is shorter, does; where one byte lacks for that; without room; no sends; sends near a block; the first ones
--- on the second network, with no room for the last.
+-- With room for all; where the second doesn't fit and the last, which is shorter, does; where one byte lacks for that; without room; no sends;
+-- sends near a block; the first ones on the second network, with no room for the last.
 -- Then lists that aren't whole sends, answer lists that are too short, and both with a fault where none is allowed.
 unfoldable pub worked : List Case
 worked =

@@ -17,6 +17,7 @@ use Rattle.mesh.specs.declared.Network.{Network}
 use Rattle.mesh.specs.declared.Network.the-variants.{First, Second}
 use Rattle.mesh.specs.declared.Place.{Place}
 use Rattle.mesh.specs.Headings.{letter, letters}
+use Rattle.mesh.specs.Numbers.{networkNumber, sameNetwork}
 use Rattle.mesh.specs.Rules.{Trip}
 use Rattle.mesh.specs.Hops.{At, moved, fresh}
 use Rattle.mesh.specs.Walk.{hopAt}
@@ -25,7 +26,7 @@ use Rattle.mesh.proofs.Lists.{same-eq, same-refl}
 use Rattle.mesh.proofs.Bools.{true-false, value, and-both}
 use Rattle.theory_walk.specs.Claims.{reached, Hops}
 use Rattle.theory_judging.specs.Claims.{tripTo}
-use Rattle.theory_demands.specs.Demand3.{Call, sameNetwork, Keeps, Refused, lettersThenArrived, isSame, Calls, no-calls, same, other, sameAnswers, hops, recordAt, Goes, no-more, letter-next, arrived-now, refused-now}
+use Rattle.theory_demands.specs.Demand3.{Call, Keeps, Refused, lettersThenArrived, isSame, Calls, no-calls, same, other, sameAnswers, hops, recordAt, Goes, no-more, letter-next, arrived-now, refused-now}
 use Rattle.theory_demands.proofs.Requests.{Clear}
 use Rattle.theory_demands.proofs.Hops.{way}
 use Rattle.theory_demands.proofs.Steps.{hopped-refused, there-refused, refused-still, hops-answer, hops-record, arrived-answer, arrived-record}
@@ -48,10 +49,6 @@ same-network First Second e = true-false e refl
 same-network Second First e = true-false e refl
 same-network Second Second e = refl
 
-network-itself : (n : Network) → sameNetwork n n ≡ true
-network-itself First = refl
-network-itself Second = refl
-
 module _ (network : Network) (columns rows : ℕ) (map : List ℕ) where
   -- the test of a call holds exactly if it was given the same
   pub is-same : (c : Call) → isSame network columns rows map c ≡ true ↔ ((c .network ≡ network) × (c .columns ≡ columns) × (c .rows ≡ rows) × (c .map ≡ map))
@@ -62,7 +59,7 @@ module _ (network : Network) (columns rows : ℕ) (map : List ℕ) where
         let (p, f) = and-both {a = eqb (c .columns) columns} d in
         let (q, g) = and-both {a = eqb (c .rows) rows} f in
         (same-network _ _ o, eqb-true _ _ p, eqb-true _ _ q, same-eq _ _ g),
-    λ e. rw (e .0, e .1, e .2, e .3, network-itself network, eq-eqb columns columns refl, eq-eqb rows rows refl, same-refl map),
+    λ e. rw (e .0, e .1, e .2, e .3, eq-eqb (networkNumber network) _ refl, eq-eqb columns columns refl, eq-eqb rows rows refl, same-refl map),
   )
 
   -- then it kept the promise for the same

@@ -9,7 +9,6 @@ use lib.ListN.{length, getD, drop}
 use Rattle.mesh.specs.declared.Heading.{Heading}
 use Rattle.mesh.specs.declared.Last.the-variants as lasts
 use Rattle.mesh.specs.declared.Network.{Network}
-use Rattle.mesh.specs.declared.Network.the-variants.{First, Second}
 use Rattle.mesh.specs.declared.Place.{Place}
 use Rattle.mesh.specs.declared.Packet.{Packet}
 use Rattle.mesh.specs.declared.Routed.{Routed}
@@ -17,7 +16,7 @@ use Rattle.mesh.specs.declared.Moved.{Moved}
 use Rattle.mesh.specs.Mesh.{mesh}
 use Rattle.mesh.specs.Headings.{letter, letters}
 use Rattle.mesh.specs.Tests.{first}
-use Rattle.mesh.specs.Numbers.{Answer, returned}
+use Rattle.mesh.specs.Numbers.{sameNetwork, Answer, returned}
 use Rattle.mesh.specs.Rounds.{sameList, marked}
 use Rattle.mesh.specs.Blocks.{blocks}
 use Rattle.mesh.specs.Rules.{Trip}
@@ -58,13 +57,6 @@ unfoldable pub lettersThenArrived : ℕ → List Heading → List Told
 lettersThenArrived zero hs = []
 lettersThenArrived (suc n) [] = there ∷ lettersThenArrived n []
 lettersThenArrived (suc n) (h ∷ hs) = hopped (letter h) ∷ lettersThenArrived n hs
-
--- the same network
-abbrev pub sameNetwork : Network → Network → Bool
-sameNetwork First First = true
-sameNetwork First Second = false
-sameNetwork Second First = false
-sameNetwork Second Second = true
 
 -- the first of refusals 1 to 8 that applies to a request, or 0
 unfoldable pub refusal1to8 : ℕ → ℕ → List ℕ → Place → Place → ℕ

@@ -1,5 +1,5 @@
 -- What is shown of a pick between the routes of both networks. Assumes nothing.
-use mathlib.Core.Path.{_≡_, _∙_}
+use mathlib.Core.Path.{_≡_, refl, _∙_}
 use mathlib.Core.Logic.{_↔_, _≢_, inl, inr}
 use mathlib.Core.List.{List, []}
 use Prim.Native.Nat.{ℕ, suc, _≤_, _<_}
@@ -26,7 +26,7 @@ use Rattle.theory_demands.proofs.Requests.{passed-9, nine-decides}
 use Rattle.theory_demands.proofs.Routes.{room-none, served-clear}
 use Rattle.theory_demands.proofs.Theorems.{routes-are-short, route-is-judged}
 use Rattle.theory_pick.specs.declared.Picked.{Picked}
-use Rattle.theory_pick.specs.Picking.{route, none, picked, PicksRoute, part, HandsBack}
+use Rattle.theory_pick.specs.Picking.{route, none, picked, bufferOf, part, PicksRoute, HandsBack}
 use Rattle.theory_pick.proofs.Better.{first-better, second-better, neither-better, first-served, second-served}
 
 module _ (columns rows : ℕ) (map : List ℕ) (s d : Place) where
@@ -65,18 +65,31 @@ module _ (columns rows : ℕ) (map : List ℕ) (s d : Place) where
         ((refusalOn First first ≡ suc k) × (refusalOn Second second ≢ 0))
     picks-none {k} = neither-better (refusalOn First first) _ (refusalOn Second second) _ k
 
-    -- Of the pick on both buffers, which keeps its promise:
-    module _ {r : Picked} {first′ second′ : List ℕ} (does : PicksRoute columns rows map s d first second r first′ second′) where
-      -- routes stand in their buffers, whichever is picked, and nothing after them is touched
-      pub routes-stand :
-          (refusalOn First first ≡ 0 → (take (length (hopsOn First)) first′ ≡ letters (hopsOn First)) × (drop (length (hopsOn First)) first′ ≡ drop (length (hopsOn First)) first)) ×
-          (refusalOn Second second ≡ 0 → (take (length (hopsOn Second)) second′ ≡ letters (hopsOn Second)) × (drop (length (hopsOn Second)) second′ ≡ drop (length (hopsOn Second)) second))
-      routes-stand = (λ e. rw (does .writes-first) (stands First first e), λ e. rw (does .writes-second) (stands Second second e))
+    -- of both outputs, that of a network
+    pub outputs : (network : Network) → bufferOf network (routeOutput First columns rows map s d first) (routeOutput Second columns rows map s d second) ≡
+        routeOutput network columns rows map s d (bufferOf network first second)
+    outputs First = refl
+    outputs Second = refl
 
-      -- one not served leaves its buffer untouched
-      pub unserved-untouched : {k : ℕ} → (refusalOn First first ≡ suc k → first′ ≡ first) × (refusalOn Second second ≡ suc k → second′ ≡ second)
+    -- what is picked is the route of a served network
+    pub picked-is-served : (network : Network) {n : ℕ} → picked columns rows map s d first second ≡ route network n →
+        (refusalOn network (bufferOf network first second) ≡ 0) × (n ≡ length (hopsOn network))
+    picked-is-served First e = first-served (refusalOn First first) _ (refusalOn Second second) _ e
+    picked-is-served Second e = second-served (refusalOn First first) _ (refusalOn Second second) _ e
+
+    -- Of the pick on both buffers, which keeps its promise, and either network:
+    module _ {r : Picked} {first′ second′ : List ℕ} (does : PicksRoute columns rows map s d first second r first′ second′) (network : Network) where
+      -- its route stands in its buffer, whichever is picked, and nothing after it is touched
+      pub routes-stand : refusalOn network (bufferOf network first second) ≡ 0 →
+          (take (length (hopsOn network)) (bufferOf network first′ second′) ≡ letters (hopsOn network)) ×
+          (drop (length (hopsOn network)) (bufferOf network first′ second′) ≡ drop (length (hopsOn network)) (bufferOf network first second))
+      routes-stand e = rw (does .writes network) (stands network _ e)
+
+      -- where it is not served, its buffer is untouched
+      pub unserved-untouched : {k : ℕ} → refusalOn network (bufferOf network first second) ≡ suc k →
+          bufferOf network first′ second′ ≡ bufferOf network first second
       unfolding written
-      unserved-untouched = (λ e. does .writes-first ∙ rw e, λ e. does .writes-second ∙ rw e)
+      unserved-untouched e = does .writes network ∙ rw e
 
     -- Of the pick that hands back a part, which keeps its promise:
     module _ {handed : List ℕ} {number : ℕ} (does : HandsBack columns rows map s d first second handed number) where
@@ -84,12 +97,9 @@ module _ (columns rows : ℕ) (map : List ℕ) (s d : Place) where
       pub route-handed : (network : Network) {n : ℕ} → picked columns rows map s d first second ≡ route network n →
           (handed ≡ letters (hopsOn network)) × (n ≡ length (hopsOn network)) × (number ≡ 0)
       unfolding part
-      route-handed First e =
-          let (served, is-n) = first-served (refusalOn First first) _ (refusalOn Second second) _ e in
-          (does .hands ∙ rw (e, is-n) (stands First first served .0), is-n, does .lends ∙ rw e)
-      route-handed Second e =
-          let (served, is-n) = second-served (refusalOn First first) _ (refusalOn Second second) _ e in
-          (does .hands ∙ rw (e, is-n) (stands Second second served .0), is-n, does .lends ∙ rw e)
+      route-handed network e =
+          let (served, is-n) = picked-is-served network e in
+          (does .hands ∙ rw (e, is-n, outputs network) (stands network _ served .0), is-n, does .lends ∙ rw e)
 
       -- where none is, the empty part, and the lent number is the refusal
       pub none-handed : {k : ℕ} → picked columns rows map s d first second ≡ none k → (handed ≡ []) × (number ≡ k)
@@ -101,11 +111,7 @@ module _ (columns rows : ℕ) (map : List ℕ) (s d : Place) where
           judgement network columns rows map s d handed ≡ passed n
       handed-is-judged network e =
           let (letters-of, is-n, zero-lent) = route-handed network e in
-          rw (letters-of, is-n) (route-is-judged network columns rows map s d (clear network e))
-        where
-          clear : (network : Network) {n : ℕ} → picked columns rows map s d first second ≡ route network n → requestRefusal network columns rows map s d ≡ 0
-          clear First e = served-clear First columns rows map s d first (first-served (refusalOn First first) _ (refusalOn Second second) _ e .0)
-          clear Second e = served-clear Second columns rows map s d second (second-served (refusalOn First first) _ (refusalOn Second second) _ e .0)
+          rw (letters-of, is-n) (route-is-judged network columns rows map s d (served-clear network columns rows map s d _ (picked-is-served network e .0)))
 
     -- with room for 4,034 letters in either buffer a request that one of the networks serves is never refused
     pub room-for-pick : mostHops ≤ length first → mostHops ≤ length second → {k : ℕ} → picked columns rows map s d first second ≡ none (suc k) →

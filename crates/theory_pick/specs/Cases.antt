@@ -11,7 +11,7 @@ use Rattle.mesh.specs.Mesh.{onMesh}
 use Rattle.mesh.specs.Headings.{rowAfter, columnAfter, letters}
 use Rattle.mesh.specs.Parity.{turnsWest}
 use Rattle.mesh.specs.Tests.{first}
-use Rattle.mesh.specs.Numbers.{networkNumber, answer, written}
+use Rattle.mesh.specs.Numbers.{sameNetwork, answer, written}
 use Rattle.mesh.specs.Nodes.{isBad, bad, ahead, upright, ruleA, ruleB, unsafe, nearInRow}
 use Rattle.mesh.specs.Rounds.{become, advance, round, sameList, settle}
 use Rattle.mesh.specs.Blocks.{run, corner, blockAt, select, blocks, reaches, someBlock}
@@ -21,7 +21,7 @@ use Rattle.mesh.specs.Walk.{arrived, hopAt, walk, shutIn, meetsEdge, distance, 
 use Rattle.mesh.specs.Maps.{badSize, badLength, some, badByte, allowed, misplacedAt, misplaced, mapTests}
 use Rattle.mesh.specs.Requests.{offMesh, inBlock, blockNearInRow, unserved, placeTests, tripTests, requestTests}
 use Rattle.mesh.specs.Routing.{hopsOf, sendTests, routeRefusal, routeOutput}
-use Rattle.mesh.specs.Cases.{A, B, C, D, bytes, faultMap, place}
+use Rattle.mesh.specs.Cases.{A, B, D, bytes, faultMap, place}
 use Rattle.theory_pick.specs.Picking.{Pick, route, none, better, picked, part, lentNumber}
 
 pub data Case : Type 0 where
@@ -32,7 +32,7 @@ pub data Case : Type 0 where
 
 -- it is the route of that network
 abbrev pub isRoute : Pick → Network → Bool
-isRoute (route m n) network = eqb (networkNumber m) (networkNumber network)
+isRoute (route m n) network = sameNetwork m network
 isRoute (none k) network = false
 
 unfoldable pub holds : Case → Bool
@@ -52,8 +52,8 @@ allHold [] = true
 allHold (x ∷ xs) = holds x && allHold xs
 
 -- The second network's route is shorter; the first's is; a tie. Only the second is served, since the source is shut in on the first; only the
--- first is; likewise for a source in column 0. The first's buffer is too short, and then the second's; the winner's is just long enough. Both
--- refuse, for the same reason or for two.
+-- first is; likewise for a source in column 0. The first's buffer is too short, and then the second's; the winner's is just long enough. No hop
+-- at all. Both refuse, for the same reason or for two.
 unfoldable pub worked : List Case
 worked =
     picks A (1, 5) (6, 5) 20 20 Second "NWWNNNNEE" ∷
@@ -75,7 +75,7 @@ worked =
     []
 
 pub worked-hold : T (allHold worked)
-unfolding worked allHold holds A B C D bytes onMesh rowAfter columnAfter letters turnsWest first answer written isBad bad ahead
+unfolding worked allHold holds A B D bytes onMesh rowAfter columnAfter letters turnsWest first answer written isBad bad ahead
     upright ruleA ruleB unsafe become advance round sameList settle run corner blockAt select blocks reaches someBlock nearInRow
     blocked side toward own stopped again atDestination inRow leaving across nearing otherRow hop moved arrived hopAt walk
     shutIn meetsEdge distance detours bound badSize badLength some badByte allowed misplacedAt misplaced mapTests offMesh inBlock blockNearInRow

@@ -37,10 +37,14 @@ abbrev pub picked : ℕ → ℕ → List ℕ → Place → Place → List ℕ �
 picked columns rows map s d first second =
     better (routeAnswer First columns rows map s d first) (routeAnswer Second columns rows map s d second)
 
+-- of both buffers, that of a network
+abbrev pub bufferOf : Network → List ℕ → List ℕ → List ℕ
+bufferOf First first second = first
+bufferOf Second first second = second
+
 -- the part that is handed back: the start of the buffer that holds the route; where there is none, the empty part of the first
 unfoldable pub part : Pick → List ℕ → List ℕ → List ℕ
-part (route First n) first second = take n first
-part (route Second n) first second = take n second
+part (route network n) first second = take n (bufferOf network first second)
 part (none k) first second = take 0 first
 
 -- the lent number: 0 where a route is handed back, else the refusal
@@ -51,8 +55,7 @@ lentNumber (none k) = k
 -- the promise of the pick on both buffers: which route it is, and every byte is as Route leaves it
 pub record PicksRoute (columns rows : ℕ) (map : List ℕ) (s d : Place) (first second : List ℕ) (r : Picked) (first′ second′ : List ℕ) : Type 0 where
   pub picks : pickOf r ≡ picked columns rows map s d first second
-  pub writes-first : first′ ≡ routeOutput First columns rows map s d first
-  pub writes-second : second′ ≡ routeOutput Second columns rows map s d second
+  pub writes : (network : Network) → bufferOf network first′ second′ ≡ routeOutput network columns rows map s d (bufferOf network first second)
 
 -- the promise of the pick that hands back a part
 pub record HandsBack (columns rows : ℕ) (map : List ℕ) (s d : Place) (first second handed : List ℕ) (number : ℕ) : Type 0 where

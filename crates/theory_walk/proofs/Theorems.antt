@@ -40,6 +40,14 @@ use Rattle.theory_walk.proofs.Arrival.{mode-arrives}
 use Rattle.theory_walk.proofs.ShutIn.{edge-barred, west-fails, shut-by}
 use Rattle.theory_walk.proofs.Longest.{bound-few}
 
+-- from a source that meets the west edge some hop by the rules is unlawful
+pub meets-edge-fails : (t : Trip) (r c : ℕ) → meetsEdge t r c ≡ true → Fails t (fresh (place r c))
+unfolding meetsEdge
+meets-edge-fails t r c e =
+    let f = and-both {a = not (t .west c)} e in
+    let g = and-both {a = eqb c 0} (f .1) in
+    west-fails t r c (eqb-false r (t .R) (not-true _ (g .1))) (not-true _ (f .0)) (edge-barred t r c (eqb-true c 0 (g .0)))
+
 module _ {t : Trip} {bs : List Block} (course : Course t bs) (r c : ℕ) where
   -- from a served source the walk is a lawful route within the bound, whatever number of hops above the bound is allowed
   pub walk-arrives : Served t r c → (m : ℕ) → bound t bs r c < m → Arrives t bs r c (walk m t (fresh (place r c)))
@@ -67,21 +75,13 @@ module _ {t : Trip} {bs : List Block} (course : Course t bs) (r c : ℕ) where
       let g = and-both {a = blocked t W 1 r c} (f .1) in
       shut-by course (ℕ-discrete r (t .R)) free (not-true _ (f .0)) (g .0) (or-cases _ _ (g .1))
 
-  -- from one that meets the west edge too
-  pub meets-edge-fails : meetsEdge t r c ≡ true → Fails t (fresh (place r c))
-  unfolding meetsEdge
-  meets-edge-fails e =
-      let f = and-both {a = not (t .west c)} e in
-      let g = and-both {a = eqb c 0} (f .1) in
-      west-fails t r c (eqb-false r (t .R) (not-true _ (g .1))) (not-true _ (f .0)) (edge-barred t r c (eqb-true c 0 (g .0)))
-
   -- refusal 9 comes to one condition: some hop by the rules is unlawful exactly if the source is shut in or meets the edge
   pub refusal-9 : FreePlace t r c → (shutIn t r c || meetsEdge t r c ≡ true) ↔ Fails t (fresh (place r c))
   refusal-9 free = (λ e. fails (or-cases (shutIn t r c) _ e), λ f. known f (value (shutIn t r c || meetsEdge t r c)))
     where
       fails : (shutIn t r c ≡ true) ⊎ (meetsEdge t r c ≡ true) → Fails t (fresh (place r c))
       fails (inl e) = shut-in-fails (free .free) e
-      fails (inr e) = meets-edge-fails e
+      fails (inr e) = meets-edge-fails t r c e
 
       known : Fails t (fresh (place r c)) → (shutIn t r c || meetsEdge t r c ≡ true) ⊎ (shutIn t r c || meetsEdge t r c ≡ false) →
           shutIn t r c || meetsEdge t r c ≡ true
@@ -91,7 +91,7 @@ module _ {t : Trip} {bs : List Block} (course : Course t bs) (r c : ℕ) where
           let src : Served t r c = record { place = free; not-shut = free-west; off-edge = off } in
           absurd (fails-unlawful t (suc (bound t bs r c)) f (walk-arrives src _ (omega arith) .route))
 
--- the networks differ in the columns that permit NW and SW alone, and there odd and even are exchanged
+-- the second network permits NW and SW in the columns in which the first forbids them
 pub networks-exchanged : (w : Mesh) (d : Place) (c : ℕ) → tripOn Second w d .west c ≡ not (tripOn First w d .west c)
 networks-exchanged w d c = parity.networks-exchanged c
 

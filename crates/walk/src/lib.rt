@@ -32,8 +32,8 @@ fn advance(p: Packet, h: Heading, n: u32, out: &mut [u8], made: u32) -> Packet
     moved_by(p, h, n)
 }
 
-// Straight travel, leg by leg, and the number of hops in the end: along the destination's row by rule 2, in a column toward it by rule 5. Where either rule leads off that way
-// the packet goes round.
+// Straight travel, leg by leg, and the number of hops in the end: along the destination's row by rule 2, in a column toward it by rule 5. Where
+// either rule leads off that way the packet goes round.
 pub fn straight(
     network: Network,
     columns: u32,

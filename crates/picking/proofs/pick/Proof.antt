@@ -2,7 +2,7 @@
 use borrow.Author.Needs.{needs}
 use mathlib.Core.Path.{sym}
 use lib.Seq.{length-take-le}
-use Rattle.picking.proofs.Picked.{first-within, second-within, first-handed, second-handed, none-handed}
+use Rattle.picking.proofs.Picked.{part-within, route-handed, none-handed}
 use Rattle.picking.proofs.pick.Statement.{statement}
 use Rattle.picking.proofs.pick.Tie as tie
 
@@ -39,14 +39,14 @@ slice-aggregate-result-2 c =
     let told = c .before in
     let known = told .before .before .before in
     let routed = known .before .before .before .before .before .before in
-    sym (length-take-le _ _ (first-within (routed .route-both .ensures) (known .picked2 .given .1) (told .enum-told .given .1)))
+    sym (length-take-le _ _ (part-within (routed .route-both .ensures) (known .picked2 .given .1) (told .enum-told .given .1)))
 
 returns-2 : tie.Need-returns-2
 returns-2 c =
     let told = c .before in
     let known = told .before .before .before in
     let routed = known .before .before .before .before .before .before in
-    first-handed (routed .route-both .ensures) (known .picked2 .given .1) (told .enum-told .given .1)
+    route-handed (routed .route-both .ensures) (known .picked2 .given .1) (told .enum-told .given .1)
 
 enum-told-2 : tie.Need-enum-told-2
 enum-told-2 c = search needs
@@ -56,14 +56,14 @@ slice-aggregate-result-3 c =
     let told = c .before in
     let known = told .before .before .before in
     let routed = known .before .before .before .before .before .before in
-    sym (length-take-le _ _ (second-within (routed .route-both .ensures) (known .picked2 .given .1) (told .enum-told2 .given .1)))
+    sym (length-take-le _ _ (part-within (routed .route-both .ensures) (known .picked2 .given .1) (told .enum-told2 .given .1)))
 
 returns-3 : tie.Need-returns-3
 returns-3 c =
     let told = c .before in
     let known = told .before .before .before in
     let routed = known .before .before .before .before .before .before in
-    second-handed (routed .route-both .ensures) (known .picked2 .given .1) (told .enum-told2 .given .1)
+    route-handed (routed .route-both .ensures) (known .picked2 .given .1) (told .enum-told2 .given .1)
 
 pub pick-spec : {M : Type 1} → statement M
 pick-spec =
