@@ -57,8 +57,9 @@ int main(void) {
     map[3 * COLUMNS + 4] = 1;
     map[4 * COLUMNS + 5] = 1;
 
-    uint32_t blocks = pinduguil_mark(COLUMNS, ROWS, map, sizeof map, marks, sizeof marks);
-    printf("blocks %u\n", (unsigned)blocks);
+    uint64_t rounds[1] = {0};
+    uint32_t blocks = pinduguil_mark(COLUMNS, ROWS, map, sizeof map, marks, sizeof marks, rounds, 1);
+    printf("blocks %u, rounds %llu\n", (unsigned)blocks, (unsigned long long)rounds[0]);
     for (int row = ROWS - 1; row >= 0; row--) {
         for (int column = 0; column < COLUMNS; column++) putchar(".FU"[marks[row * COLUMNS + column]]);
         putchar('\n');

@@ -21,10 +21,13 @@ int main(void) {
     uint64_t index[1];
     uint32_t packet[5] = {1, 2, 0, 1, 4};
 
-    show("mark, no map", pinduguil_mark(COLUMNS, ROWS, NULL, 0, out, sizeof out));
-    show("mark, no output", pinduguil_mark(COLUMNS, ROWS, map, sizeof map, NULL, 0));
-    show("mark, neither", pinduguil_mark(COLUMNS, ROWS, NULL, 0, NULL, 0));
-    show("mark, no columns", pinduguil_mark(0, ROWS, NULL, 0, NULL, 0));
+    uint64_t rounds[1] = {9};
+    show("mark, no map", pinduguil_mark(COLUMNS, ROWS, NULL, 0, out, sizeof out, rounds, 1));
+    show("mark, no output", pinduguil_mark(COLUMNS, ROWS, map, sizeof map, NULL, 0, rounds, 1));
+    printf("rounds %u\n", (unsigned)rounds[0]);
+    show("mark, no rounds", pinduguil_mark(COLUMNS, ROWS, map, sizeof map, out, sizeof out, NULL, 0));
+    show("mark, none of them", pinduguil_mark(COLUMNS, ROWS, NULL, 0, NULL, 0, NULL, 0));
+    show("mark, no columns", pinduguil_mark(0, ROWS, NULL, 0, NULL, 0, NULL, 0));
 
     show("route, no map", pinduguil_route(PINDUGUIL_FIRST, COLUMNS, ROWS, NULL, 0, 1, 2, 1, 4, out, sizeof out));
     show("route, no output", pinduguil_route(PINDUGUIL_FIRST, COLUMNS, ROWS, map, sizeof map, 1, 2, 1, 4, NULL, 0));

@@ -72,9 +72,12 @@ extern "C" {
 #endif
 
 /* Mark blocks. Writes 0 safe, 1 faulty, 2 unsafe for each node and answers the number of blocks, at most 4,096; or
- * PINDUGUIL_REFUSED plus 1 to 5 or 10. Bytes of out beyond the map's length are left alone; on a refusal all of them are. */
+ * PINDUGUIL_REFUSED plus 1 to 5 or 10. Bytes of out beyond the map's length are left alone; on a refusal all of them are.
+ * The number of rounds is written to rounds[0] if there is room for it: a round changes every node that the marking before it makes unsafe, all
+ * at once, and the last one, in which nothing changes, counts too. It is at most the number of unsafe nodes plus 1. On a refusal rounds[0] is
+ * left alone; numbers of rounds beyond the first always are. */
 uint32_t pinduguil_mark(uint32_t columns, uint32_t rows, const uint8_t *map, size_t map_length,
-                        uint8_t *out, size_t out_length);
+                        uint8_t *out, size_t out_length, uint64_t *rounds, size_t rounds_length);
 
 /* Route from a source to (row, column). Writes the letters of the hops and answers their number, at most PINDUGUIL_MOST_HOPS; or
  * PINDUGUIL_REFUSED plus 1 to 10. Bytes of out after the letters are left alone; on a refusal all of them are. */

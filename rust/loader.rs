@@ -21,8 +21,9 @@ fn main() {
     map[4 * columns + 5] = 1;
     let mesh = Mesh { columns: columns as u32, rows: rows as u32, map: &map };
 
-    let mut marks = vec![0; map.len()];
-    println!("blocks {:?}", mesh.mark(&mut marks));
+    let (mut marks, mut rounds) = (vec![0; map.len()], 0);
+    let blocks = mesh.mark(&mut marks, &mut rounds);
+    println!("blocks {blocks:?}, rounds {rounds}");
 
     let (source, destination) = (Place { row: 1, column: 5 }, Place { row: 6, column: 5 });
     let mut out = vec![0; MOST_HOPS];
@@ -75,7 +76,7 @@ fn main() {
     println!("{:?}", mesh.route(Network::First, source, side, &mut out));
     println!("{:?}", mesh.route(Network::First, source, above, &mut out).map(String::from_utf8_lossy));
     println!("{:?}", mesh.route(Network::Second, west, above, &mut out));
-    println!("{:?}", Mesh { columns: 65, ..mesh }.mark(&mut marks));
+    println!("{:?}", Mesh { columns: 65, ..mesh }.mark(&mut marks, &mut rounds));
     println!("{:?}", mesh.judge(Network::First, Place { row: 3, column: 5 }, destination, b"N"));
     println!("{:?}", mesh.judge(Network::First, source, destination, b"NX"));
     for letters in [b"EN", b"ES", b"NW"] {

@@ -167,10 +167,11 @@ impl Mesh {
 
 // ---- Mark blocks
 
-pub fn mark(mesh: &Checked, out: &mut [u8]) -> u32 {
+pub fn mark(mesh: &Checked, out: &mut [u8], rounds: &mut [u64]) -> u32 {
     answer(mesh, |mesh| {
         let out = out.get_mut(..mesh.marks.len()).ok_or(10u32)?;
         out.copy_from_slice(&mesh.marks);
+        put_first(rounds, mesh.rounds.into());
         Ok(mesh.blocks().len() as u32)
     })
 }

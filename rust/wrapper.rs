@@ -10,7 +10,10 @@ pub const MOST_HOPS: usize = 4034;
 pub mod raw {
     pub mod library {
         extern "C" {
-            pub fn pinduguil_mark(columns: u32, rows: u32, map: *const u8, map_length: usize, out: *mut u8, out_length: usize) -> u32;
+            pub fn pinduguil_mark(
+                columns: u32, rows: u32, map: *const u8, map_length: usize, out: *mut u8, out_length: usize, rounds: *mut u64,
+                rounds_length: usize,
+            ) -> u32;
             pub fn pinduguil_route(
                 network: u32, columns: u32, rows: u32, map: *const u8, map_length: usize, source_row: u32, source_column: u32, row: u32,
                 column: u32, out: *mut u8, out_length: usize,
@@ -42,8 +45,9 @@ pub mod raw {
 
     // Each call is sound: a Rust slice is a valid, aligned pair, and a `&mut` one overlaps no other.
 
-    pub fn mark(columns: u32, rows: u32, map: &[u8], out: &mut [u8]) -> u32 {
-        unsafe { library::pinduguil_mark(columns, rows, map.as_ptr(), map.len(), out.as_mut_ptr(), out.len()) }
+    pub fn mark(columns: u32, rows: u32, map: &[u8], out: &mut [u8], rounds: &mut [u64]) -> u32 {
+        let (m, o, r) = (map.len(), out.len(), rounds.len());
+        unsafe { library::pinduguil_mark(columns, rows, map.as_ptr(), m, out.as_mut_ptr(), o, rounds.as_mut_ptr(), r) }
     }
 
     pub fn route(
@@ -229,9 +233,10 @@ pub struct Mesh<'a> {
 }
 
 impl Mesh<'_> {
-    /// Writes 0 safe, 1 faulty, 2 unsafe for each node, and answers the number of blocks.
-    pub fn mark(&self, out: &mut [u8]) -> Result<u32, Refusal> {
-        answer(raw::mark(self.columns, self.rows, self.map, out))
+    /// Writes 0 safe, 1 faulty, 2 unsafe for each node, and to `rounds` the number of rounds that took, including the last, in which nothing
+    /// changes; answers the number of blocks. On a refusal nothing is written.
+    pub fn mark(&self, out: &mut [u8], rounds: &mut u64) -> Result<u32, Refusal> {
+        answer(raw::mark(self.columns, self.rows, self.map, out, std::slice::from_mut(rounds)))
     }
 
     /// Writes the letters of the hops to the start of `out`, and answers them.

@@ -78,11 +78,11 @@ fn plain(case: &Case, map: &[u8]) -> Checked {
 }
 
 fn proved_mark(case: &Case, lent: &mut Lent) -> u32 {
-    raw::mark(case.columns, case.rows, case.map(), &mut lent.out)
+    raw::mark(case.columns, case.rows, case.map(), &mut lent.out, &mut lent.index)
 }
 
 fn plain_mark(case: &Case, lent: &mut Lent) -> u32 {
-    plain_mesh::mark(&plain(case, case.map()), &mut lent.out)
+    plain_mesh::mark(&plain(case, case.map()), &mut lent.out, &mut lent.index)
 }
 
 fn proved_judge(case: &Case, lent: &mut Lent) -> u32 {

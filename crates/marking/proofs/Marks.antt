@@ -28,6 +28,7 @@ use Rattle.theory_blocks.proofs.Marking.{marked-length}
 use Rattle.theory_blocks.proofs.Theorems.{obstacles}
 use Rattle.nodes.specs.Sized.{Sized}
 use Rattle.blocks.specs.Marking.{Marking}
+use Rattle.rounds.specs.Rounds.{Settles}
 use Rattle.marking.specs.Marks.{MarksMap}
 
 -- what refusals 1 to 5 let pass
@@ -96,6 +97,7 @@ module _ (columns rows : ℕ) (map out : List ℕ) where
   refused why e =
       record {
         answers = rw e (sym (answer-refused why _));
+        counts = rw e (sym (answer-refused why _));
         writes = rw e (sym (written-refused why _ _));
       }
 
@@ -112,13 +114,14 @@ module _ (columns rows : ℕ) (map out : List ℕ) where
     pub room-refused : length out < length map → MarksBlocks columns rows map out (Refused Room) out
     room-refused h = refused Room (only-room ∙ ap (λ b. cond b 10 0) (lt-ltb _ _ h))
 
-    pub marks-done : {n : ℕ} {new : List ℕ} → length map ≤ length out → new ≡ marked (mesh columns rows map) .map →
+    pub marks-done : {n k : ℕ} {new : List ℕ} → length map ≤ length out → Settles (mesh columns rows map) k new →
         n ≡ length (blocks (mesh columns rows (take (length map) (new ++ drop (length map) out)))) →
-        MarksBlocks columns rows map out (Blocks n) (new ++ drop (length map) out)
+        MarksBlocks columns rows map out (Blocks n k) (new ++ drop (length map) out)
     unfolding answer written
-    marks-done h e q =
+    marks-done h t q =
         let none = only-room ∙ ap (λ b. cond b 10 0) (le-ltb _ _ h) in
         record {
-          answers = rw (none, q, front columns rows map clear e (drop (length map) out), e);
-          writes = rw (none, e, marked-length (mesh columns rows map));
+          answers = rw (none, q, front columns rows map clear (t .marks) (drop (length map) out), t .marks);
+          counts = rw (none, t .counts);
+          writes = rw (none, t .marks, marked-length (mesh columns rows map));
         }

@@ -24,7 +24,7 @@ pub fn mark_map(columns: u32, rows: u32, map: &[u8], marks: &mut [u8]) -> Checke
     Checked::Clear
 }
 
-// Mark blocks: writes 0 safe, 1 faulty, 2 unsafe for each node, and answers the number of blocks.
+// Mark blocks: writes 0 safe, 1 faulty, 2 unsafe for each node, and answers the number of blocks and that of rounds.
 pub fn mark_blocks(columns: u32, rows: u32, map: &[u8], out: &mut [u8]) -> Marked
     ensures { λ x. ⌜ MarksBlocks columns rows (now (map .entry)) (now (out .entry)) x (now (out .exit)) ⌝ }
 {
@@ -36,6 +36,6 @@ pub fn mark_blocks(columns: u32, rows: u32, map: &[u8], out: &mut [u8]) -> Marke
     if out.len() < n {
         return Marked::Refused(Refusal::Room);
     }
-    mark(columns, rows, map, &mut out[..n]);
-    Marked::Blocks(count_blocks(columns, rows, &out[..n]))
+    let rounds = mark(columns, rows, map, &mut out[..n]);
+    Marked::Blocks(count_blocks(columns, rows, &out[..n]), rounds)
 }

@@ -1,5 +1,6 @@
 -- The starred bench cases of document 01, on 10 columns by 8 rows, and the one of document 02, E4, in one list with one claim; and in others of
--- their own what judging says of turns, which destinations near a block are refused, and the second network. Assumes nothing.
+-- their own the rounds of a marking, what judging says of turns, which destinations near a block are refused, and the second network. Assumes
+-- nothing.
 use mathlib.Core.Bool.{Bool, true, _&&_}
 use mathlib.Core.List.{List, [], _∷_}
 use Prim.Native.Nat.{ℕ, _+_, _-_, _*_}
@@ -17,7 +18,7 @@ use Rattle.mesh.specs.Headings.{rowAfter, columnAfter, opposite, letters
 use Rattle.mesh.specs.Parity.{turnsWest}
 use Rattle.mesh.specs.Tests.{first}
 use Rattle.mesh.specs.Nodes.{isBad, bad, ahead, upright, ruleA, ruleB, unsafe, nearInRow}
-use Rattle.mesh.specs.Rounds.{become, advance, round, sameList, settle, marked}
+use Rattle.mesh.specs.Rounds.{become, advance, round, sameList, settle, marked, rounds}
 use Rattle.mesh.specs.Blocks.{Block, run, corner, blockAt, select, blocks, reaches, onRing, someBlock}
 use Rattle.mesh.specs.Turns.{breaks, turnBreaks, hopBreaks, reverses, turnsBack}
 use Rattle.mesh.specs.Rules.{blocked, side, toward, own, stopped, again, atDestination, inRow, leaving, across, nearing, otherRow, hop, tripOn}
@@ -36,6 +37,8 @@ faultMap (p ∷ more) = set (faultMap more) (p .0 * 10 + p .1) 1
 pub data Case : Type 0 where
   -- the faults, and the blocks that they make: rows from, to, columns from, to, one block after the other
   makes : List (ℕ × ℕ) → List ℕ → Case
+  -- the faults, and the number of rounds of their marking
+  counts : List (ℕ × ℕ) → ℕ → Case
   -- the faults, source, destination, and the letters of the route
   routes : List (ℕ × ℕ) → ℕ × ℕ → ℕ × ℕ → String → Case
   -- the faults, source, destination, and the number of the refusal
@@ -67,6 +70,7 @@ verdict n faults s d text = judgement n 10 8 (faultMap faults) (place s) (place 
 
 unfoldable pub holds : Network → Case → Bool
 holds n (makes faults expect) = sameList (edges (blocks (marked (mesh 10 8 (faultMap faults))))) expect
+holds n (counts faults expect) = eqb (rounds (mesh 10 8 (faultMap faults))) expect
 holds n (routes faults s d expect) =
     eqb (refusal n faults s d) 0 && sameList (letters (hopsOf n (marked (mesh 10 8 (faultMap faults))) (place s) (place d))) (bytes expect)
 holds n (refuses faults s d expect) = eqb (refusal n faults s d) expect
@@ -92,6 +96,10 @@ C = (3, 3) ∷ (3, 6) ∷ []
 unfoldable pub D : List (ℕ × ℕ)
 D = (4, 3) ∷ []
 
+-- a column of faults, and one beside its south end
+unfoldable pub L : List (ℕ × ℕ)
+L = (1, 2) ∷ (2, 2) ∷ (3, 2) ∷ (4, 2) ∷ (5, 2) ∷ (6, 2) ∷ (1, 3) ∷ []
+
 unfoldable pub starred : List Case
 starred =
     makes A (3 ∷ 4 ∷ 4 ∷ 5 ∷ []) ∷
@@ -116,6 +124,23 @@ unfolding starred allHold holds A B C refusal bytes edges onMesh rowAfter column
     shutIn meetsEdge distance detours bound badSize badLength some badByte allowed misplacedAt misplaced mapTests offMesh inBlock blockNearInRow
     unserved placeTests tripTests requestTests hopsOf sendTests routeRefusal
 starred-hold = tt
+
+-- The rounds of the marking (document 02, E7): no faults, faults that make no node unsafe, two nodes in one round. On map L each round but the
+-- last makes one node unsafe, as the one before it made its south neighbour.
+unfoldable pub inRounds : List Case
+inRounds =
+    counts [] 1 ∷
+    counts B 1 ∷
+    counts C 1 ∷
+    counts A 2 ∷
+    counts ((3, 4) ∷ (3, 6) ∷ []) 2 ∷
+    counts ((2, 4) ∷ (3, 6) ∷ []) 3 ∷
+    counts L 6 ∷
+    []
+
+pub inRounds-hold : T (allHold First inRounds)
+unfolding inRounds allHold holds A B C L onMesh isBad bad ahead upright ruleA ruleB unsafe become advance round sameList settle
+inRounds-hold = tt
 
 -- Each of the four turns in a column of either kind; one that enters a block besides; one that leaves the mesh besides.
 unfoldable pub turns : List Case

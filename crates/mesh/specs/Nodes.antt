@@ -1,7 +1,8 @@
 -- The nodes of a mesh: which are bad, and which become unsafe (document 01, "Blocks and rings"). Assumes nothing.
-use mathlib.Core.Bool.{Bool, true, false, _&&_, _||_}
+use mathlib.Core.Bool.{Bool, true, false, cond, _&&_, _||_}
+use mathlib.Core.List.{List, [], _∷_}
 use Prim.Native.Nat.{ℕ, zero, suc, _+_, _-_, _*_}
-use lib.Dec.{leb}
+use lib.Dec.{leb, eqb}
 use lib.ListN.{getD}
 use Rattle.mesh.specs.Mesh.{Mesh, onMesh}
 use Rattle.mesh.specs.Headings.{Heading, E, N, S, W}
@@ -10,6 +11,11 @@ use Rattle.mesh.specs.Headings.{Heading, E, N, S, W}
 unfoldable pub isBad : ℕ → Bool
 isBad zero = false
 isBad (suc x) = true
+
+-- how many nodes of a map have the number n
+unfoldable pub howMany : ℕ → List ℕ → ℕ
+howMany n [] = 0
+howMany n (x ∷ xs) = cond (eqb x n) 1 0 + howMany n xs
 
 -- the node at (r, c) is bad; places beyond the mesh are never bad
 unfoldable pub bad : Mesh → ℕ → ℕ → Bool

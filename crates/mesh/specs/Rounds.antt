@@ -1,4 +1,5 @@
--- The marking of unsafe nodes in rounds, until nothing changes (document 01, "Blocks and rings"). Assumes nothing.
+-- The marking of unsafe nodes in rounds, until nothing changes (document 01, "Blocks and rings"), and how many these are (document 02, E7).
+-- Assumes nothing.
 use mathlib.Core.Bool.{Bool, true, false, cond, _&&_}
 use mathlib.Core.List.{List, [], _∷_}
 use Prim.Native.Nat.{ℕ, zero, suc, _*_, _/_, _%_}
@@ -32,14 +33,31 @@ sameList [] (y ∷ ys) = false
 sameList (x ∷ xs) [] = false
 sameList (x ∷ xs) (y ∷ ys) = eqb x y && sameList xs ys
 
--- rounds until nothing changes, at most k
-unfoldable pub settle : ℕ → Mesh → List ℕ
-settle zero w = w .map
+-- where rounds come to rest: the map, and how many they were
+pub record Rest : Type 0 where
+  pub map : List ℕ
+  pub rounds : ℕ
+
+-- with one round more before it
+abbrev pub later : Rest → Rest
+later x = record { map = x .map; rounds = suc (x .rounds) }
+
+-- rounds until nothing changes, that last one included; at most k
+unfoldable pub settle : ℕ → Mesh → Rest
+settle zero w = record { map = w .map; rounds = 0 }
 settle (suc k) w =
     let next = round w in
     let rest = settle k (on w next) in
-    cond (sameList next (w .map)) (w .map) rest
+    cond (sameList next (w .map)) (record { map = w .map; rounds = 1 }) (later rest)
 
--- the least marking of a fault map; a round that changes something adds a node, so these rounds are enough
+-- where the rounds of a fault map come to rest; one that changes something adds a node, so these rounds are enough
+abbrev pub settled : Mesh → Rest
+settled w = settle (suc (w .columns * w .rows)) w
+
+-- the least marking of a fault map
 abbrev pub marked : Mesh → Mesh
-marked w = on w (settle (suc (w .columns * w .rows)) w)
+marked w = on w (settled w .map)
+
+-- the number of its rounds, including the last, in which nothing changes
+abbrev pub rounds : Mesh → ℕ
+rounds w = settled w .rounds

@@ -86,9 +86,9 @@ pub enum Tested {
     Wrong(Mistake),
 }
 
-// What marking the blocks answers.
+// What marking the blocks answers: their number, and how many rounds the marking took.
 pub enum Marked {
-    Blocks(u32),
+    Blocks(u32, u32),
     Refused(Refusal),
 }
 

@@ -100,7 +100,7 @@ pub fn marked_code(answer: Marked) -> u32
     ensures { λ x. ⌜ x ≡ answerCode (markedAnswer answer) ⌝ }
 {
     match answer {
-        Marked::Blocks(n) => return n,
+        Marked::Blocks(n, _) => return n,
         Marked::Refused(why) => return refusal_code(why),
     }
 }

@@ -6,7 +6,7 @@ use Prim.Native.Nat.{ℕ, _+_, _-_, _*_, _≤_, _<_}
 use lib.ListN.{length, getD}
 use Rattle.mesh.specs.Mesh.{Mesh}
 use Rattle.nodes.specs.Rounds.{nodeAfter}
-use Rattle.mesh.specs.Rounds.{round}
+use Rattle.mesh.specs.Rounds.{round, marked, rounds}
 
 -- the first k nodes of row r are those after a round, and what stands before the row is as it was
 pub record RowAfter (w : Mesh) (r k : ℕ) (before after : List ℕ) : Type 0 where
@@ -66,3 +66,8 @@ pub record Spread (rows : ℕ) (changed : List ℕ) (k : ℕ) (due : List ℕ) :
 -- a round changes no quiet row
 pub record QuietSettled (w : Mesh) (changed : List ℕ) : Type 0 where
   pub settled : (r : ℕ) → r < w .rows → Quiet (w .rows) changed r → Settled w r
+
+-- now is the marking of w, and n the number of its rounds
+pub record Settles (w : Mesh) (n : ℕ) (now : List ℕ) : Type 0 where
+  pub marks : now ≡ marked w .map
+  pub counts : n ≡ rounds w

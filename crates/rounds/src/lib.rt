@@ -4,9 +4,8 @@ ghost use Prim.Native.Nat.{_≤_, _<_};
 ghost use lib.ListN.{length};
 ghost use Rattle.mesh.specs.Mesh.{mesh};
 ghost use Rattle.mesh.specs.Nodes.{bad};
-ghost use Rattle.mesh.specs.Rounds.{marked};
 ghost use Rattle.nodes.specs.Sized.{Sized};
-ghost use Rattle.rounds.specs.Rounds.{RowAfter, DueAfter, Copied, RowCopied, OthersSettled, Rounded, Near, Spread, QuietSettled};
+ghost use Rattle.rounds.specs.Rounds.{RowAfter, DueAfter, Copied, RowCopied, OthersSettled, Rounded, Near, Spread, QuietSettled, Settles};
 use mesh::Column;
 use mesh::Row;
 use nodes::node_after;
@@ -148,24 +147,27 @@ fn round_in_place(
     copy_round(columns, rows, next, &due, changed, out)
 }
 
-// The marking of a fault map, in its place: rounds until nothing changes.
-pub fn settle(columns: u32, rows: u32, out: &mut [u8])
+// The marking of a fault map, in its place: rounds until nothing changes, and how many these were.
+pub fn settle(columns: u32, rows: u32, out: &mut [u8]) -> u32
     requires { ⌜ Sized columns rows (now out) ⌝ }
-    ensures { λ _. ⌜ now (out .exit) ≡ marked (mesh columns rows (now (out .entry))) .map ⌝ }
+    ensures { λ n. ⌜ Settles (mesh columns rows (now (out .entry))) n (now (out .exit)) ⌝ }
 {
     let mut next = [0u8; 4096];
     let mut changed = [1u8; 64];
     let mut any = true;
+    let mut made: u32 = 0;
     while any {
         any = round_in_place(columns, rows, out, &mut next, &mut changed);
+        made += 1;
     }
+    made
 }
 
 // The marking of a fault map, in another.
-pub fn mark(columns: u32, rows: u32, map: &[u8], out: &mut [u8])
+pub fn mark(columns: u32, rows: u32, map: &[u8], out: &mut [u8]) -> u32
     requires { ⌜ Sized columns rows (now map) × (length (now out) ≡ length (now map)) ⌝ }
-    ensures { λ _. ⌜ now (out .exit) ≡ marked (mesh columns rows (now (map .entry))) .map ⌝ }
+    ensures { λ n. ⌜ Settles (mesh columns rows (now (map .entry))) n (now (out .exit)) ⌝ }
 {
     copy_part(map, out, 0, map.len());
-    settle(columns, rows, out);
+    settle(columns, rows, out)
 }

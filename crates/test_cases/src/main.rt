@@ -1,4 +1,4 @@
-// The bench cases of document 01, starred ones included, and some more on moving on, judging, destinations near a block and the second network.
+// The bench cases of document 01, starred ones included, and some more on rounds, moving on, judging, destinations near a block and the second network.
 // Prints each request with its answer; the file stdout has the answers of the paper. Meshes have 10 columns and 8 rows, and a place is one number,
 // as 34 for (3,4).
 mod judging_cases;
@@ -10,6 +10,7 @@ fn main() {
     marking_cases::try_blocks();
     marking_cases::try_faults();
     marking_cases::try_sizes();
+    marking_cases::try_rounds();
     routing_cases::try_routes();
     judging_cases::try_hand_ins();
     moving_cases::try_packets();

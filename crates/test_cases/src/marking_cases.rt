@@ -1,5 +1,6 @@
 // Mark blocks.
 use marking::mark_blocks;
+use mesh::Marked;
 use numbers::marked_code;
 use test_prints::faults;
 use test_prints::print;
@@ -7,17 +8,22 @@ use test_prints::print_answer;
 use test_prints::print_faults;
 use test_prints::print_number;
 
-fn mark(p: u32, q: u32, out: &mut [u8]) -> u32 {
+fn mark(p: u32, q: u32, out: &mut [u8]) -> Marked {
     let map = faults(p, q);
-    marked_code(mark_blocks(10, 8, &map, out))
+    mark_blocks(10, 8, &map, out)
 }
 
-fn mark_empty(columns: u32, rows: u32, nodes: usize, out: &mut [u8]) -> u32 {
-    let map = [0u8; 4096];
-    if 4096 < nodes {
-        return 0;
+// The number of blocks and that of rounds, or the refusal.
+fn print_marked(answer: Marked) {
+    print_answer(marked_code(answer));
+    match answer {
+        Marked::Blocks(_, rounds) => {
+            print(b", rounds ");
+            print_number(rounds as u64);
+        }
+        Marked::Refused(_) => {}
     }
-    marked_code(mark_blocks(columns, rows, &map[0..nodes], out))
+    print(b"\n");
 }
 
 fn print_mark(x: u8) {
@@ -47,8 +53,7 @@ fn try_marks(p: u32, q: u32, with_marks: bool) {
     let answer = mark(p, q, &mut out);
     print(b"blocks round");
     print_faults(p, q);
-    print_answer(answer);
-    print(b"\n");
+    print_marked(answer);
     if with_marks {
         print_marks(&out);
     }
@@ -56,14 +61,39 @@ fn try_marks(p: u32, q: u32, with_marks: bool) {
 
 // Marks a map of this size without faults.
 fn try_size(columns: u32, rows: u32, nodes: usize) {
+    let map = [0u8; 4096];
+    if 4096 < nodes {
+        return;
+    }
     let mut out = [7u8; 4096];
-    let answer = mark_empty(columns, rows, nodes, &mut out);
     print_number(columns as u64);
     print(b" columns, ");
     print_number(rows as u64);
     print(b" rows");
-    print_answer(answer);
-    print(b"\n");
+    print_marked(mark_blocks(columns, rows, &map[0..nodes], &mut out));
+}
+
+// Map L: a column of faults, and one beside its south end.
+fn draw_corner() -> [u8; 80] {
+    let mut map = [0u8; 80];
+    map[12] = 1;
+    map[22] = 1;
+    map[32] = 1;
+    map[42] = 1;
+    map[52] = 1;
+    map[62] = 1;
+    map[13] = 1;
+    map
+}
+
+// Each round but the last makes one node unsafe.
+pub fn try_rounds() {
+    let map = draw_corner();
+    let mut out = [7u8; 80];
+    let answer = mark_blocks(10, 8, &map, &mut out);
+    print(b"blocks round rows 1 to 6 of column 2 and (1,3)");
+    print_marked(answer);
+    print_marks(&out);
 }
 
 pub fn try_blocks() {

@@ -53,7 +53,7 @@ fn print_network(tallies: &[u64; 128], network: u8) {
 fn main() {
     let mut tallies = [0u64; 128];
     try_all(&mut tallies);
-    print(b"maps marked ", &tallies, 1, 11);
+    print(b"maps marked, rounds counted ", &tallies, 1, 11);
     io::write_all(STDOUT_FILENO, b"first network\n");
     print_network(&tallies, 1);
     io::write_all(STDOUT_FILENO, b"second network\n");

@@ -12,7 +12,7 @@ use crate::handed::node;
 use crate::handed::start;
 use crate::tallies::count;
 use marking::mark_blocks;
-use numbers::marked_code;
+use mesh::Marked;
 use numbers::network_of;
 use numbers::routed_code;
 use routing::route;
@@ -22,6 +22,7 @@ use test_router::answers::answer_route;
 use test_router::answers::bound;
 use test_router::areas::find_boxes;
 use test_router::areas::mark_boxes;
+use test_router::rounds::count_rounds;
 use test_router::trips::Trip;
 
 // Whether an output holds the first n of these bytes, and 7 in each later place, as it did before.
@@ -40,14 +41,18 @@ fn holds(out: &[u8; 4096], bytes: &[u8; 4096], n: usize) -> bool {
     true
 }
 
-// Whether marking answers n and writes these marks.
-fn marks(size: Size, map: &[u8], n: usize, marked: &[u8; 4096]) -> bool {
+// Whether marking answers n blocks and k rounds, and writes these marks.
+fn marks(size: Size, map: &[u8], n: usize, k: u32, marked: &[u8; 4096]) -> bool {
     let mut out = [7u8; 4096];
-    let answer = mark_blocks(size.columns as u32, size.rows as u32, map, &mut out);
-    if marked_code(answer) as usize != n {
-        return false;
+    match mark_blocks(size.columns as u32, size.rows as u32, map, &mut out) {
+        Marked::Blocks(blocks, rounds) => {
+            if blocks as usize != n || rounds != k {
+                return false;
+            }
+            return holds(&out, marked, map.len());
+        }
+        Marked::Refused(_) => return false,
     }
-    holds(&out, marked, map.len())
 }
 
 fn send(size: Size, map: &[u8], t: Trip, out: &mut [u8]) -> u32 {
@@ -163,8 +168,9 @@ fn try_map(tallies: &mut [u64; 128], shape: Shape, sends: u32, seed: u32) {
     let n = find_boxes(size.columns, &map, &mut list);
     let mut marked = map;
     mark_boxes(size.columns, &mut marked, &list, n);
+    let k = count_rounds(size, &map);
     let part = start(&map, count_nodes(size.columns, size.rows));
-    count(tallies, 1, 11, marks(size, part, n, &marked));
+    count(tallies, 1, 11, marks(size, part, n, k, &marked));
     try_sends(tallies, size, part, &list, n, sends, seed);
 }
 

@@ -9,15 +9,16 @@ use native.Mathlib.Nat.{add-zero, zero-add, add-suc, suc-add}
 use native.Mathlib.Decide.{decLt}
 use native.Mathlib.Omega.{arith}
 use borrow.Author.Tests.{ltb-true, lt-ltb}
-use lib.Dec.{ltb}
+use lib.Dec.{ltb, eqb}
 use lib.ListN.{length, getD}
 use Rattle.mesh.specs.Mesh.{Mesh, onMesh}
-use Rattle.mesh.specs.Nodes.{isBad, bad, unsafe}
-use Rattle.mesh.specs.Rounds.{become, advance, round, on, sameList, settle, marked}
+use Rattle.mesh.specs.Nodes.{isBad, howMany, bad, unsafe}
+use Rattle.mesh.specs.Rounds.{become, advance, round, on, sameList, later, settle, settled, marked}
 use Rattle.mesh.proofs.Lists.{same-eq, same-refl}
 use Rattle.mesh.proofs.Bools.{true-false, value, and-both, or-cases}
 use Rattle.mesh.proofs.Index.{index-row, index-column, index-within}
 use Rattle.theory_blocks.specs.Marking.{Closed, NoneBeyond, Holds}
+use Rattle.theory_blocks.specs.Rounds.{safeNodes, unsafeNodes}
 use Rattle.theory_blocks.proofs.Rules.{unsafe-holds, unsafe-mono}
 
 -- One round.
@@ -59,46 +60,50 @@ bad-round w size r c p q =
     rw (lt-ltb r (w .rows) p, lt-ltb c (w .columns) q, getD-advance _ 0 (w .map) (r * w .columns + c) i, zero-add, index-row (w .columns) r c q, index-column (w .columns) r c q)
     (isBad-become _ _)
 
--- Rounds end: each that changes something leaves fewer safe nodes.
-pub safe : List ℕ → ℕ
-safe [] = 0
-safe (zero ∷ xs) = suc (safe xs)
-safe (suc x ∷ xs) = safe xs
+pub howMany-le : (n : ℕ) (xs : List ℕ) → howMany n xs ≤ length xs
+unfolding howMany
+howMany-le n [] = omega arith
+howMany-le n (x ∷ xs) =
+    elim (value (eqb x n)) [ inl e ↦ rw e (omega (arith, howMany-le n xs)) | inr e ↦ rw e (omega (arith, howMany-le n xs)) ]
 
-pub safe-le : (xs : List ℕ) → safe xs ≤ length xs
-unfolding safe
-safe-le [] = omega arith
-safe-le (zero ∷ xs) = omega (arith, safe-le xs)
-safe-le (suc x ∷ xs) = omega (arith, safe-le xs)
-
+-- Rounds end: safe nodes become unsafe, nothing else changes, and if none does it is the same map.
 record Fewer (xs ys : List ℕ) : Type 0 where
-  pub no-more : safe ys ≤ safe xs
-  pub or-same : safe xs ≤ safe ys → ys ≡ xs
+  pub no-more : safeNodes ys ≤ safeNodes xs
+  pub or-same : safeNodes xs ≤ safeNodes ys → ys ≡ xs
+  pub turned : safeNodes ys + unsafeNodes ys ≡ safeNodes xs + unsafeNodes xs
 
 fewer : (b : Bool) (x : ℕ) {xs ys : List ℕ} → Fewer xs ys → Fewer (x ∷ xs) (become b x ∷ ys)
-unfolding safe become
-fewer true zero f = record { no-more = omega arith; or-same = λ h. absurd (omega arith) }
-fewer false zero f = record { no-more = omega arith; or-same = λ h. rw (f .or-same (omega arith)) }
-fewer true (suc x) f = record { no-more = f .no-more; or-same = λ h. rw (f .or-same h) }
-fewer false (suc x) f = record { no-more = f .no-more; or-same = λ h. rw (f .or-same h) }
+unfolding howMany become
+fewer true zero f = record { no-more = omega arith; or-same = λ h. absurd (omega arith); turned = omega arith }
+fewer false zero f = record { no-more = omega arith; or-same = λ h. rw (f .or-same (omega arith)); turned = omega arith }
+fewer true (suc x) f = record { no-more = omega arith; or-same = λ h. rw (f .or-same (omega arith)); turned = omega arith }
+fewer false (suc x) f = record { no-more = omega arith; or-same = λ h. rw (f .or-same (omega arith)); turned = omega arith }
 
 advance-fewer : (u : ℕ → Bool) (i : ℕ) (xs : List ℕ) → Fewer xs (advance u i xs)
 unfolding advance
-advance-fewer u i [] = record { no-more = omega arith; or-same = λ h. refl }
+advance-fewer u i [] = record { no-more = omega arith; or-same = λ h. refl; turned = refl }
 advance-fewer u i (x ∷ xs) = fewer (u i) x (advance-fewer u (suc i) xs)
 
-pub round-less : (w : Mesh) → (round w ≡ w .map → ⊥) → safe (round w) < safe (w .map)
+pub round-less : (w : Mesh) → (round w ≡ w .map → ⊥) → safeNodes (round w) < safeNodes (w .map)
 unfolding round
 round-less w changed =
-    elim (decLt (safe (round w)) (safe (w .map))) [
+    elim (decLt (safeNodes (round w)) (safeNodes (w .map))) [
       | yes h ↦ h
       | no h ↦ absurd (changed (advance-fewer _ 0 (w .map) .or-same (omega arith)))
     ]
 
-unlike-less : (w : Mesh) → sameList (round w) (w .map) ≡ false → safe (round w) < safe (w .map)
-unlike-less w e = round-less w (λ s. true-false (same-refl (w .map)) (rw s at e))
+-- as many as become unsafe
+pub round-turned : (w : Mesh) → safeNodes (round w) + unsafeNodes (round w) ≡ safeNodes (w .map) + unsafeNodes (w .map)
+unfolding round
+round-turned w = advance-fewer _ 0 (w .map) .turned
 
-settle-rests : (k : ℕ) (w : Mesh) → safe (w .map) < k → round (on w (settle k w)) ≡ settle k w
+pub unlike : (w : Mesh) → sameList (round w) (w .map) ≡ false → round w ≡ w .map → ⊥
+unlike w e s = true-false (same-refl (w .map)) (rw s at e)
+
+unlike-less : (w : Mesh) → sameList (round w) (w .map) ≡ false → safeNodes (round w) < safeNodes (w .map)
+unlike-less w e = round-less w (unlike w e)
+
+settle-rests : (k : ℕ) (w : Mesh) → safeNodes (w .map) < k → round (on w (settle k w .map)) ≡ settle k w .map
 unfolding settle
 settle-rests zero w h = absurd (omega arith)
 settle-rests (suc k) w h =
@@ -106,18 +111,18 @@ settle-rests (suc k) w h =
     [ inl e ↦ rw e (same-eq _ _ e) | inr e ↦ rw e (settle-rests k (on w (round w)) (omega (arith, unlike-less w e))) ]
 
 -- more rounds than enough change nothing
-settle-fuel : (k k′ : ℕ) (w : Mesh) → safe (w .map) < k → safe (w .map) < k′ → settle k w ≡ settle k′ w
+settle-fuel : (k k′ : ℕ) (w : Mesh) → safeNodes (w .map) < k → safeNodes (w .map) < k′ → settle k w ≡ settle k′ w
 unfolding settle
 settle-fuel zero k′ w h h′ = absurd (omega arith)
 settle-fuel (suc k) zero w h h′ = absurd (omega arith)
 settle-fuel (suc k) (suc k′) w h h′ =
     elim (value (sameList (round w) (w .map))) [
       | inl e ↦ rw e
-      | inr e ↦ rw e (settle-fuel k k′ (on w (round w)) (omega (arith, unlike-less w e)) (omega (arith, unlike-less w e)))
+      | inr e ↦ rw e (ap later (settle-fuel k k′ (on w (round w)) (omega (arith, unlike-less w e)) (omega (arith, unlike-less w e))))
     ]
 
 -- what each round keeps, the marking has
-settle-keeps : (M : List ℕ → Type 0) (k : ℕ) (w : Mesh) → ((m : List ℕ) → M m → M (round (on w m))) → M (w .map) → M (settle k w)
+settle-keeps : (M : List ℕ → Type 0) (k : ℕ) (w : Mesh) → ((m : List ℕ) → M m → M (round (on w m))) → M (w .map) → M (settle k w .map)
 unfolding settle
 settle-keeps M zero w f i = i
 settle-keeps M (suc k) w f i =
@@ -129,26 +134,28 @@ marked-length w =
     settle-keeps (λ m. length m ≡ length (w .map)) (suc (w .columns * w .rows)) w
     (λ m e. round-length (on w m) ∙ e) refl
 
-pub marked-reached : (w : Mesh) → round w ≡ w .map → marked w .map ≡ w .map
+-- For a loop of rounds: one that changes nothing is the last.
+pub settled-last : (w : Mesh) → round w ≡ w .map → settled w ≡ record { map = w .map; rounds = 1 }
 unfolding settle
-marked-reached w e = rw (e, same-refl (w .map))
+settled-last w e = rw (e, same-refl (w .map))
 
 -- What holds of a map of the mesh's size.
 module _ (w : Mesh) (size : length (w .map) ≡ w .columns * w .rows) where
   pub marked-rests : round (marked w) ≡ marked w .map
-  marked-rests = settle-rests (suc (w .columns * w .rows)) w (omega (arith, safe-le (w .map)))
+  marked-rests = settle-rests (suc (w .columns * w .rows)) w (omega (arith, howMany-le 0 (w .map)))
 
-  -- For a loop of rounds: a round leaves the marking to come as it is. (When it changes nothing, that is reached.)
-  pub marked-round : marked (on w (round w)) .map ≡ marked w .map
+  -- After one that changes something the others come to the same.
+  pub settled-later : (round w ≡ w .map → ⊥) → settled w ≡ later (settled (on w (round w)))
   unfolding settle
-  marked-round =
+  settled-later changed =
       elim (value (sameList (round w) (w .map))) [
-        | inl e ↦ ap (λ m. settle (suc (w .columns * w .rows)) (on w m)) (same-eq _ _ e)
+        | inl e ↦ absurd (changed (same-eq _ _ e))
         | inr e ↦
             rw e
-            (settle-fuel (suc (w .columns * w .rows)) (w .columns * w .rows) (on w (round w))
-            (omega (arith, unlike-less w e, safe-le (w .map)))
-            (omega (arith, unlike-less w e, safe-le (w .map))))
+            (ap later
+            (settle-fuel (w .columns * w .rows) (suc (w .columns * w .rows)) (on w (round w))
+            (omega (arith, unlike-less w e, howMany-le 0 (w .map)))
+            (omega (arith, unlike-less w e, howMany-le 0 (w .map)))))
       ]
 
   pub marked-closed : Closed (w .columns) (w .rows) (bad (marked w))

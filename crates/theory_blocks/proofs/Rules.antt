@@ -104,7 +104,7 @@ module _ (B : ℕ → ℕ → Bool) (r c : ℕ) where
       rw (nearby-beside (column B c) r u)
       (both-rules (B r (c + 1) && before (B r) 1 c) (beside (B r) 1 c) (beside (B r) 2 c) (nearby-second (B r) c a))
 
-  unsafe-reason : unsafe B r c ≡ true → Reason B r c
+  pub unsafe-reason : unsafe B r c ≡ true → Reason B r c
   unfolding unsafe ruleA ruleB upright ahead
   unsafe-reason e =
       elim (or-cases (ruleA B r c) (ruleB B r c) e) [

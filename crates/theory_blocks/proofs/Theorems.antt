@@ -1,25 +1,28 @@
 -- What is shown of the marking and the blocks of document 01. Each theorem is proved in the file that its proof cites. Assumes nothing.
-use mathlib.Core.Path.{_≡_, refl}
+use mathlib.Core.Path.{_≡_, refl, ap}
 use mathlib.Core.Logic.{_⊎_, _↔_}
 use mathlib.Core.Bool.{Bool, true, false}
 use mathlib.Core.List.{List, [], _∷_}
-use Prim.Native.Nat.{ℕ, _-_, _*_, _≤_}
+use Prim.Native.Nat.{ℕ, suc, _+_, _-_, _*_, _≤_}
 use native.Mathlib.Omega.{arith}
 use lib.ListN.{length}
 use Rattle.mesh.specs.declared.Place.{Place}
 use Rattle.mesh.specs.Mesh.{Mesh, mesh, onMesh}
-use Rattle.mesh.specs.Nodes.{isBad, bad, ahead, upright, ruleA, ruleB, unsafe, nearInRow}
-use Rattle.mesh.specs.Rounds.{become, advance, round, sameList, settle, marked}
+use Rattle.mesh.specs.Nodes.{isBad, howMany, bad, ahead, upright, ruleA, ruleB, unsafe, nearInRow}
+use Rattle.mesh.specs.Rounds.{become, advance, round, sameList, settle, marked, rounds}
 use Rattle.mesh.specs.Blocks.{run, corner, Block, blockAt, select, blocks, onRing}
 use Rattle.mesh.specs.Walk.{detours}
+use Rattle.mesh.specs.Cases.{faultMap, L}
 use Rattle.mesh.specs.Maps.{allowed}
 use Rattle.mesh.specs.Requests.{inBlock, blockNearInRow}
 use Rattle.mesh.proofs.Index.{few-nodes}
 use Rattle.mesh.proofs.Maps.{Accepted}
 use Rattle.theory_blocks.specs.Marking.{Closed, Holds}
+use Rattle.theory_blocks.specs.Rounds.{unsafeNodes, FirstQuiet}
 use Rattle.theory_blocks.specs.Blocks.{Unjoined, IsBlock, Within, OnRing, Fits, Apart}
 use Rattle.theory_blocks.specs.Obstacles.{Listed, OnSomeSide, IsListed, Pairs, ObstaclesOf}
-use Rattle.theory_blocks.proofs.Marking.{marked-closed, marked-holds, marked-least}
+use Rattle.theory_blocks.proofs.Marking.{marked-closed, marked-holds, marked-least, settled-last}
+use Rattle.theory_blocks.proofs.Rounds.{rounds-within, marked-quiet, quiet-once, one-round-same, same-one-round, no-faults-quiet}
 use Rattle.theory_blocks.proofs.Apart.{listed-apart}
 use Rattle.theory_blocks.proofs.Connected.{walled-block, block-listed, apart-unjoined}
 use Rattle.theory_blocks.proofs.Listed.{blocks-walled, bad-in-block, blocks-apart, blocks-within}
@@ -45,6 +48,26 @@ module _ (w : Mesh) (size : length (w .map) ≡ w .columns * w .rows) where
   -- and every closed marking that holds the faults holds it
   pub marking-is-least : (Q : ℕ → ℕ → Bool) → Closed (w .columns) (w .rows) Q → Holds (bad w) Q → Holds (bad (marked w)) Q
   marking-is-least = marked-least w size
+
+  -- The number of rounds (document 02, E7): the first round in which nothing changes has it, and that round leaves the marking as it is.
+  pub rounds-are-counted : FirstQuiet w (rounds w) (marked w .map)
+  rounds-are-counted = marked-quiet w size
+
+  -- whoever makes rounds until one changes nothing comes to that number, and to the marking
+  pub rounds-by-hand : {n : ℕ} {m : List ℕ} → FirstQuiet w n m → (n ≡ rounds w) × (m ≡ marked w .map)
+  rounds-by-hand q = quiet-once q rounds-are-counted
+
+  -- at most the number of unsafe nodes in the result plus 1
+  pub rounds-are-few : rounds w ≤ unsafeNodes (marked w .map) + 1
+  rounds-are-few = omega (arith, rounds-within (suc (w .columns * w .rows)) w)
+
+  -- 1 exactly if nothing becomes unsafe
+  pub one-round : rounds w ≡ 1 ↔ marked w .map ≡ w .map
+  one-round = (one-round-same w size, same-one-round w size)
+
+  -- without faults it is 1
+  pub one-round-without-faults : ((r c : ℕ) → bad w r c ≡ false) → rounds w ≡ 1
+  one-round-without-faults none = ap (λ x. x .rounds) (settled-last w (no-faults-quiet w none))
 
   -- every block (a connected set of bad nodes to which no further one is joined) is a listed rectangle
   pub blocks-are-rectangles : {Set : ℕ → ℕ → Type 0} → IsBlock (bad (marked w)) Set → IsListed (blocks (marked w)) Set
@@ -115,3 +138,8 @@ module _ {columns rows : ℕ} {map : List ℕ} (a : Accepted columns rows map) w
 pub detours-fill : detours (blocks (marked (mesh 5 3 (0 ∷ 0 ∷ 0 ∷ 0 ∷ 0 ∷ 0 ∷ 0 ∷ 1 ∷ 0 ∷ 0 ∷ 0 ∷ 0 ∷ 0 ∷ 0 ∷ 0 ∷ [])))) ≡ (5 - 2) * (3 - 1)
 unfolding onMesh isBad bad ahead upright ruleA ruleB unsafe become advance round sameList settle run corner blockAt select blocks detours
 detours-fill = refl
+
+-- The bound on the rounds is met: five nodes become unsafe, one in each round but the last.
+pub rounds-fill : let w = mesh 10 8 (faultMap L) in (rounds w ≡ 6) × (unsafeNodes (marked w .map) + 1 ≡ 6)
+unfolding L onMesh isBad howMany bad ahead upright ruleA ruleB unsafe become advance round sameList settle
+rounds-fill = (refl, refl)

@@ -1,3 +1,4 @@
 pub mod Marking
+pub mod Rounds
 pub mod Blocks
 pub mod Obstacles

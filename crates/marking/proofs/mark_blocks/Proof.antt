@@ -48,7 +48,7 @@ slice-aggregate-count-blocks c =
     let at-enum-told = at-mark .before .before .before in
     let at-check-map = at-enum-told .before .before in
     sym
-    (ap length (front _ _ _ (told-clear _ (at-enum-told .enum-told .given .1) (at-check-map .check-map .ensures)) (at-mark .mark .ensures) _) ∙ at-mark .mark .kept .1 .1 .1 .0 ∙ length-take-le _ _ (omega arith))
+    (ap length (front _ _ _ (told-clear _ (at-enum-told .enum-told .given .1) (at-check-map .check-map .ensures)) (at-mark .mark .ensures .marks) _) ∙ at-mark .mark .kept .1 .1 .1 .0 ∙ length-take-le _ _ (omega arith))
 
 count-blocks-requires : tie.Need-count-blocks-requires
 count-blocks-requires c κs =
@@ -56,7 +56,7 @@ count-blocks-requires c κs =
     let at-enum-told = at-mark .before .before .before in
     let at-check-map = at-enum-told .before .before in
     front-sized _ _ _ (told-clear _ (at-enum-told .enum-told .given .1) (at-check-map .check-map .ensures))
-    (at-mark .mark .ensures) _
+    (at-mark .mark .ensures .marks) _
 
 same-length : tie.Need-same-length
 same-length c = search needs

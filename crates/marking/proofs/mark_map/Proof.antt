@@ -45,7 +45,7 @@ returns-2 c =
     let at-enum-told = at-mark .before .before in
     let at-check-map = at-enum-told .before .before in
     map-marked _ _ _ _ (told-clear _ (at-enum-told .enum-told .given .1) (at-check-map .check-map .ensures))
-    (at-mark .mark .ensures)
+    (at-mark .mark .ensures .marks)
 
 pub mark-map-spec : {M : Type 1} → statement M
 mark-map-spec =

@@ -61,19 +61,19 @@ slice-reshare-prefix-count-blocks : tie.Need-slice-reshare-prefix-count-blocks
 slice-reshare-prefix-count-blocks c =
     let settled = c .before .before in
     let (ready, phase) = settled .before .before .before .before .before .before .pre in
-    marks-within ready phase (settled .settle .ensures)
+    marks-within ready phase (settled .settle .ensures .marks)
 
 slice-aggregate-count-blocks : tie.Need-slice-aggregate-count-blocks
 slice-aggregate-count-blocks c =
     let settled = c .before .before .before in
     let (ready, phase) = settled .before .before .before .before .before .before .pre in
-    sym (marks-sized ready phase (settled .settle .ensures) .size)
+    sym (marks-sized ready phase (settled .settle .ensures .marks) .size)
 
 count-blocks-requires : tie.Need-count-blocks-requires
 count-blocks-requires c κs =
     let settled = c .before .before .before in
     let (ready, phase) = settled .before .before .before .before .before .before .pre in
-    marks-sized ready phase (settled .settle .ensures)
+    marks-sized ready phase (settled .settle .ensures .marks)
 
 same-length-2 : tie.Need-same-length-2
 same-length-2 c = search needs
@@ -83,7 +83,7 @@ returns-2 c =
     let settled = c .before .before .before .before in
     let well-placed = settled .before .before in
     let (ready, phase) = well-placed .before .before .before .before .pre in
-    opened ready phase (settled .settle .ensures) (well-placed .before .has-misplaced .ensures) (well-placed .if1 .left) (c .count-blocks .ensures)
+    opened ready phase (settled .settle .ensures .marks) (well-placed .before .has-misplaced .ensures) (well-placed .if1 .left) (c .count-blocks .ensures)
 
 pub mark-faults-spec : {M : Type 1} → statement M
 mark-faults-spec =
