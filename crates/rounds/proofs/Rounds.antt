@@ -54,6 +54,12 @@ settling-start columns rows n xs s h =
       ended = λ e. true-false refl e;
     }
 
+-- a round more still fits
+pub settling-few : {columns rows k : ℕ} {xs changed now : List ℕ} {x : Bool} → Settling columns rows xs x k changed now → x ≡ true →
+    length xs ≡ columns * rows → k < columns * rows + 1
+settling-few {columns} {rows} {xs = xs} {now = now} s e size =
+    omega (arith, s .going e .counts, rounds-few (mesh columns rows xs) size, marked-quiet (mesh columns rows now) (s .sized .size) .number)
+
 module _ {columns rows k : ℕ} {xs changed changed′ now next : List ℕ} {x x′ : Bool} (s : Settling columns rows xs x k changed now)
     (t : Rounded (mesh columns rows now) x′ changed′ next) (e : x ≡ true) where
   pub settling-more : Settling columns rows xs x′ (k + 1) changed′ next
@@ -69,11 +75,6 @@ module _ {columns rows k : ℕ} {xs changed changed′ now next : List ℕ} {x x
         going = λ f. rw (t .copy) (leads-on (s .sized .size) (s .going e) (t .differ f));
         ended = λ f. rw (t .copy) (leads-end (s .going e) (t .same f));
       }
-
-  -- a round more still fits
-  pub settling-few : length xs ≡ columns * rows → k < columns * rows + 1
-  settling-few size =
-      omega (arith, s .going e .counts, rounds-few (mesh columns rows xs) size, marked-quiet (mesh columns rows now) (s .sized .size) .number)
 
   -- a round that changes something leaves fewer safe nodes
   pub settling-less : safeNodes next + bit x′ < safeNodes now + bit x

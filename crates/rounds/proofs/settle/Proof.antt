@@ -52,13 +52,11 @@ round-in-place-requires c κs =
 
 add-made : tie.Need-add-made Inv-loop μ-loop
 add-made c =
-    let at-round-in-place = c .before .before .before .before in
-    let at-loop-test = at-round-in-place .before .before .before .before in
+    let at-loop-test = c .before .before .before .before .before .before .before .before in
     let asked = at-loop-test .before .before .before .pre in
     omega (
       arith,
-      settling-few (at-loop-test .before .loop .inv .settling) (at-round-in-place .round-in-place .ensures) (at-loop-test .loop-test .taken)
-          (asked .size),
+      settling-few (at-loop-test .before .loop .inv .settling) (at-loop-test .loop-test .taken) (asked .size),
       few-nodes _ _ (asked .few-columns) (asked .few-rows),
     )
 
