@@ -163,7 +163,7 @@ pub fn settle(columns: u32, rows: u32, out: &mut [u8]) -> u32
     made
 }
 
-// The marking of a fault map, in another.
+// The marking of a fault map, in another, and how many rounds that took.
 pub fn mark(columns: u32, rows: u32, map: &[u8], out: &mut [u8]) -> u32
     requires { ⌜ Sized columns rows (now map) × (length (now out) ≡ length (now map)) ⌝ }
     ensures { λ n. ⌜ Settles (mesh columns rows (now (map .entry))) n (now (out .exit)) ⌝ }

@@ -52,7 +52,8 @@ round-in-place-requires c κs =
 
 add-made : tie.Need-add-made Inv-loop μ-loop
 add-made c =
-    let at-loop-test = c .before .before .before .before .before .before .before .before in
+    let at-round-in-place = c .before .before .before .before in
+    let at-loop-test = at-round-in-place .before .before .before .before in
     let asked = at-loop-test .before .before .before .pre in
     omega (
       arith,
