@@ -24,7 +24,7 @@ use Rattle.mesh.proofs.Index.{few-nodes}
 use Rattle.mesh.proofs.Numbers.{number-some, answer-refused, written-refused}
 use Rattle.mesh.proofs.Tests.{told-refused, told-clear, clear-next}
 use Rattle.mesh.proofs.Maps.{map-numbered, accepted}
-use Rattle.theory_blocks.proofs.Marking.{marked-length}
+use Rattle.theory_blocks.proofs.Rounds.{marked-length}
 use Rattle.theory_blocks.proofs.Theorems.{obstacles}
 use Rattle.nodes.specs.Sized.{Sized}
 use Rattle.blocks.specs.Marking.{Marking}

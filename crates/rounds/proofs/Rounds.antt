@@ -11,8 +11,7 @@ use Rattle.mesh.specs.Mesh.{Mesh, mesh}
 use Rattle.mesh.specs.Rounds.{round, on, marked, rounds}
 use Rattle.mesh.proofs.Bools.{true-false, value}
 use Rattle.theory_blocks.specs.Rounds.{safeNodes}
-use Rattle.theory_blocks.proofs.Marking.{round-length, round-less, settled-last, settled-later}
-use Rattle.theory_blocks.proofs.Rounds.{rounds-few, marked-quiet}
+use Rattle.theory_blocks.proofs.Rounds.{round-length, round-less, settled-last, settled-later, rounds-few, marked-quiet}
 use Rattle.nodes.specs.Sized.{Sized}
 use Rattle.rounds.specs.Rounds.{Rounded, QuietSettled, Settles}
 use Rattle.rounds.proofs.Settled.{quiet-settled}

@@ -13,7 +13,7 @@ use Rattle.mesh.specs.Mesh.{Mesh, onMesh}
 use Rattle.mesh.specs.Nodes.{bad, ahead, upright, ruleA, ruleB, unsafe}
 use Rattle.mesh.specs.Rounds.{round, on}
 use Rattle.mesh.proofs.Index.{index-row, index-column, index-within, place-of}
-use Rattle.theory_blocks.proofs.Marking.{getD-advance, round-length}
+use Rattle.theory_blocks.proofs.Rounds.{getD-advance, round-length}
 use Rattle.nodes.specs.Rounds.{nodeAfter}
 use Rattle.rounds.specs.Rounds.{Settled, Rounded, QuietSettled}
 

@@ -12,7 +12,7 @@ use Rattle.mesh.specs.Rounds.{marked}
 use Rattle.mesh.specs.Blocks.{blocks}
 use Rattle.mesh.specs.Maps.{misplaced, mapTests}
 use Rattle.mesh.proofs.Maps.{good-size, good-length, accepted}
-use Rattle.theory_blocks.proofs.Marking.{marked-length}
+use Rattle.theory_blocks.proofs.Rounds.{marked-length}
 use Rattle.theory_blocks.proofs.Listed.{blocks-within}
 use Rattle.theory_blocks.proofs.Theorems.{obstacles}
 use Rattle.nodes.specs.Sized.{Sized}

@@ -8,11 +8,6 @@ use test_prints::print_answer;
 use test_prints::print_faults;
 use test_prints::print_number;
 
-fn mark(p: u32, q: u32, out: &mut [u8]) -> Marked {
-    let map = faults(p, q);
-    mark_blocks(10, 8, &map, out)
-}
-
 // The number of blocks and that of rounds, or the refusal.
 fn print_marked(answer: Marked) {
     print_answer(marked_code(answer));
@@ -47,16 +42,21 @@ fn print_marks(marks: &[u8; 80]) {
     }
 }
 
-// Marks a map with these faults; the marks are printed on demand.
-fn try_marks(p: u32, q: u32, with_marks: bool) {
+// Marks a map; the marks are printed on demand.
+fn try_map(map: &[u8], with_marks: bool) {
     let mut out = [7u8; 80];
-    let answer = mark(p, q, &mut out);
-    print(b"blocks round");
-    print_faults(p, q);
-    print_marked(answer);
+    print_marked(mark_blocks(10, 8, map, &mut out));
     if with_marks {
         print_marks(&out);
     }
+}
+
+// A map with these faults.
+fn try_marks(p: u32, q: u32, with_marks: bool) {
+    let map = faults(p, q);
+    print(b"blocks round");
+    print_faults(p, q);
+    try_map(&map, with_marks);
 }
 
 // Marks a map of this size without faults.
@@ -89,11 +89,8 @@ fn draw_corner() -> [u8; 80] {
 // Each round but the last makes one node unsafe.
 pub fn try_rounds() {
     let map = draw_corner();
-    let mut out = [7u8; 80];
-    let answer = mark_blocks(10, 8, &map, &mut out);
     print(b"blocks round rows 1 to 6 of column 2 and (1,3)");
-    print_marked(answer);
-    print_marks(&out);
+    try_map(&map, true);
 }
 
 pub fn try_blocks() {

@@ -1,6 +1,6 @@
 pub mod Rules
-pub mod Marking
 pub mod Rounds
+pub mod Marking
 pub mod Lines
 pub mod Rectangles
 pub mod Rings

@@ -21,8 +21,8 @@ use Rattle.theory_blocks.specs.Marking.{Closed, Holds}
 use Rattle.theory_blocks.specs.Rounds.{unsafeNodes, FirstQuiet}
 use Rattle.theory_blocks.specs.Blocks.{Unjoined, IsBlock, Within, OnRing, Fits, Apart}
 use Rattle.theory_blocks.specs.Obstacles.{Listed, OnSomeSide, IsListed, Pairs, ObstaclesOf}
-use Rattle.theory_blocks.proofs.Marking.{marked-closed, marked-holds, marked-least, settled-last}
-use Rattle.theory_blocks.proofs.Rounds.{rounds-within, marked-quiet, quiet-once, one-round-same, same-one-round, no-faults-quiet}
+use Rattle.theory_blocks.proofs.Marking.{marked-closed, marked-holds, marked-least}
+use Rattle.theory_blocks.proofs.Rounds.{settled-last, rounds-within, marked-quiet, quiet-once, one-round-same, same-one-round, no-faults-quiet}
 use Rattle.theory_blocks.proofs.Apart.{listed-apart}
 use Rattle.theory_blocks.proofs.Connected.{walled-block, block-listed, apart-unjoined}
 use Rattle.theory_blocks.proofs.Listed.{blocks-walled, bad-in-block, blocks-apart, blocks-within}
