@@ -1,11 +1,11 @@
 -- One byte written again and again. Assumes nothing.
 use mathlib.Core.Path.{_≡_, refl, sym, _∙_}
-use mathlib.Core.List.{List, [], _∷_}
+use mathlib.Core.List.{List, [], _∷_, append-nil}
 use Prim.Native.Nat.{ℕ, zero, suc, _+_, _-_, _≤_, _<_, min}
 use native.Mathlib.Omega.{arith}
-use lib.ListN.{length, set, replicate, length-set, length-replicate, replicate-append-replicate}
+use lib.ListN.{length, set, replicate, length-set, length-replicate, replicate-append-replicate, drop-of-length-le}
 use Rattle.buffers.specs.Over.{over}
-use Rattle.buffers.proofs.Over.{set-beyond, over-length, over-append}
+use Rattle.buffers.proofs.Over.{set-beyond, over-length, over-append, over-all}
 
 -- what is written beyond the buffer's end changes nothing
 pub over-beyond : (xs : List ℕ) (i : ℕ) (ys : List ℕ) → length xs ≤ i → xs ≡ over xs i ys
@@ -52,3 +52,9 @@ module _ {out : List ℕ} {at byte n k : ℕ} where
         rest (suc m) q =
             rw (← q, ← replicate-append-replicate i (suc m) byte, over-append out at (replicate i byte) (replicate (suc m) byte), length-replicate i byte)
             (over-beyond (over out at (replicate i byte)) (at + i) (replicate (suc m) byte) (rw (over-length out at (replicate i byte)) (omega (arith, f .within, f .room, f .inside))))
+
+-- the whole buffer
+pub over-same : (xs : List ℕ) (byte : ℕ) → over xs 0 (replicate (length xs) byte) ≡ replicate (length xs) byte
+over-same xs byte =
+    let size : length (replicate (length xs) byte) ≡ length xs = length-replicate (length xs) byte in
+    over-all xs (replicate (length xs) byte) (omega arith) ∙ rw (size, drop-of-length-le xs {i = length xs} (omega arith), append-nil)

@@ -6,5 +6,6 @@ pub mod Parity
 pub mod Numbers
 pub mod Tests
 pub mod Some
+pub mod Counts
 pub mod Maps
 pub mod Requests

@@ -1,10 +1,10 @@
--- What it says that none of refusals 1 to 5 applies. Assumes nothing.
+-- Where a fault may lie, and what it says that none of refusals 1 to 5 applies. Assumes nothing.
 use mathlib.Core.Path.{_≡_, refl}
 use mathlib.Core.Bool.{true, false, _&&_}
 use mathlib.Core.List.{List}
 use Prim.Native.Nat.{ℕ, _+_, _*_, _/_, _%_, _≤_, _<_}
 use native.Mathlib.Nat.{zero-add}
-use borrow.Author.Tests.{eqb-true, ltb-true, ltb-false, not-false}
+use borrow.Author.Tests.{eqb-true, leb-true, ltb-true, ltb-false, le-leb, lt-ltb, not-false}
 use lib.Dec.{eqb, ltb}
 use lib.ListN.{length, getD}
 use Rattle.mesh.specs.Mesh.{mesh, onMesh}
@@ -14,7 +14,28 @@ use Rattle.mesh.specs.Maps.{allowed, badSize, badLength, badByte, mispla
 use Rattle.mesh.proofs.Tests.{numbered, None, first-none}
 use Rattle.mesh.proofs.Bools.{and-both, and-right, or-none}
 use Rattle.mesh.proofs.Some.{none-passes}
-use Rattle.mesh.proofs.Index.{index-row, index-column, index-within}
+use Rattle.mesh.proofs.Index.{index-row, index-column, index-within, few-nodes}
+
+-- columns 2 to columns - 3 and rows 1 to rows - 2
+pub record Inner (columns rows r c : ℕ) : Type 0 where
+  pub south : 1 ≤ r
+  pub north : r + 1 < rows
+  pub west : 2 ≤ c
+  pub east : c + 2 < columns
+
+module _ (columns rows r c : ℕ) where
+  pub allowed-told : allowed columns rows r c ≡ true → Inner columns rows r c
+  unfolding allowed
+  allowed-told e =
+      let (p, q) = and-both e in
+      let (a, b) = and-both p in
+      let (d, f) = and-both q in
+      record { south = leb-true 1 r a; north = ltb-true (r + 1) rows b; west = leb-true 2 c d; east = ltb-true (c + 2) columns f }
+
+  pub allowed-true : Inner columns rows r c → allowed columns rows r c ≡ true
+  unfolding allowed
+  allowed-true i =
+      rw (le-leb 1 r (i .south), lt-ltb (r + 1) rows (i .north), le-leb 2 c (i .west), lt-ltb (c + 2) columns (i .east))
 
 -- a mesh and a map that refusals 1 to 5 let pass
 pub record Accepted (columns rows : ℕ) (map : List ℕ) : Type 0 where
@@ -27,6 +48,10 @@ pub record Accepted (columns rows : ℕ) (map : List ℕ) : Type 0 where
 pub good-size : (n : ℕ) → badSize n ≡ false → n ≤ 64
 unfolding badSize
 good-size n e = ltb-false 64 n (or-none (eqb n 0) (ltb 64 n) e .1)
+
+-- a mesh that refusals 1 and 2 let pass has few nodes
+pub good-few : (columns rows : ℕ) → badSize columns ≡ false → badSize rows ≡ false → columns * rows ≤ 4096
+good-few columns rows p q = few-nodes columns rows (good-size columns p) (good-size rows q)
 
 pub good-length : (columns rows : ℕ) (map : List ℕ) → badLength columns rows map ≡ false → length map ≡ columns * rows
 unfolding badLength

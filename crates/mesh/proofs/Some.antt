@@ -6,7 +6,7 @@ use Prim.Native.Nat.{ℕ, zero, suc, _+_, _≤_, _<_}
 use native.Mathlib.Nat.{add-zero, add-suc, suc-add}
 use native.Mathlib.Numerals.{add-one}
 use native.Mathlib.Omega.{arith}
-use lib.ListN.{length, getD, drop, drop-of-length-le}
+use lib.ListN.{length, getD, set, replicate, drop, drop-of-length-le}
 use lib.Seq.{drop-cons}
 use Rattle.mesh.specs.Maps.{some}
 use Rattle.mesh.proofs.Bools.{or-none}
@@ -17,6 +17,21 @@ none-passes t i [] e j h = absurd (omega arith)
 none-passes t i (x ∷ xs) e zero h = rw add-zero (or-none (t i x) (some t (suc i) xs) e .0)
 none-passes t i (x ∷ xs) e (suc j) h =
     rw (add-suc, ← suc-add) (none-passes t (suc i) xs (or-none (t i x) (some t (suc i) xs) e .1) j (omega arith))
+
+-- a test that x does not pass, wherever it stands
+pub none-same : (t : ℕ → ℕ → Bool) (x : ℕ) → ((i : ℕ) → t i x ≡ false) → (n i : ℕ) → some t i (replicate n x) ≡ false
+unfolding some
+none-same t x h zero i = refl
+none-same t x h (suc n) i = rw (h i) (none-same t x h n (suc i))
+
+-- a number is set that does not pass there
+pub none-set : (t : ℕ → ℕ → Bool) (i : ℕ) (xs : List ℕ) (k y : ℕ) → t (i + k) y ≡ false → some t i xs ≡ false → some t i (set xs k y) ≡ false
+unfolding some
+none-set t i [] k y h e = refl
+none-set t i (x ∷ xs) zero y h e = rw (rw add-zero at h) (or-none (t i x) (some t (suc i) xs) e .1)
+none-set t i (x ∷ xs) (suc k) y h e =
+    let (a, b) = or-none (t i x) (some t (suc i) xs) e in
+    rw a (none-set t (suc i) xs k y (rw (suc-add, ← add-suc) h) b)
 
 -- of the numbers from index i on
 unfoldable pub someFrom : (ℕ → ℕ → Bool) → List ℕ → ℕ → Bool

@@ -1,8 +1,8 @@
 -- The mesh line makes a map without faults, and a fault line adds one: neither leaves room for refusals 1 to 4. Assumes nothing.
 use mathlib.Core.Path.{_≡_, refl, sym, _∙_}
 use mathlib.Core.Bool.{Bool, false}
-use mathlib.Core.List.{List, [], _∷_}
-use Prim.Native.Nat.{ℕ, zero, suc, _+_, _*_, _≤_, _<_}
+use mathlib.Core.List.{List}
+use Prim.Native.Nat.{ℕ, _+_, _*_, _≤_, _<_}
 use native.Mathlib.Omega.{arith}
 use borrow.Author.Tests.{lt-ltb, eq-eqb}
 use lib.Dec.{ltb}
@@ -10,11 +10,11 @@ use lib.ListN.{length, set, take, replicate, length-set, length-replicate}
 use lib.Seq.{take-set-lt, take-at}
 use Rattle.mesh.specs.declared.Place.{Place}
 use Rattle.mesh.specs.Mesh.{onMesh}
-use Rattle.mesh.specs.Maps.{badSize, badLength, some, badByte}
+use Rattle.mesh.specs.Maps.{badSize, badLength, badByte}
 use Rattle.mesh.specs.Requests.{offMesh}
-use Rattle.mesh.proofs.Bools.{or-none}
-use Rattle.mesh.proofs.Index.{index-within, few-nodes}
-use Rattle.mesh.proofs.Maps.{good-size}
+use Rattle.mesh.proofs.Index.{index-within}
+use Rattle.mesh.proofs.Maps.{good-few}
+use Rattle.mesh.proofs.Some.{none-same, none-set}
 use Rattle.buffers.specs.Over.{over}
 use Rattle.buffers.proofs.Over.{over-length, over-all}
 use Rattle.theory_sheet.specs.declared.Phase.the-variants.{Start, Faults}
@@ -24,21 +24,6 @@ use Rattle.sheet_state.specs.declared.Says.the-variants.{Nothing}
 use Rattle.sheet_state.specs.Keeping.{stateOf, FaultMap, Ready, Changes}
 use Rattle.sheet_state.proofs.Phases.{faults-sends}
 
--- numbers that are at most 1
-
-small-zeros : (n i : ℕ) → some (λ i x. ltb 1 x) i (replicate n 0) ≡ false
-unfolding some
-small-zeros zero i = refl
-small-zeros (suc n) i = small-zeros n (suc i)
-
-small-set : (i : ℕ) (xs : List ℕ) (k : ℕ) → some (λ i x. ltb 1 x) i xs ≡ false → some (λ i x. ltb 1 x) i (set xs k 1) ≡ false
-unfolding some
-small-set i [] k e = refl
-small-set i (x ∷ xs) zero e = or-none (ltb 1 x) (some (λ i x. ltb 1 x) (suc i) xs) e .1
-small-set i (x ∷ xs) (suc k) e =
-    let (a, b) = or-none (ltb 1 x) (some (λ i x. ltb 1 x) (suc i) xs) e in
-    rw a (small-set (suc i) xs k b)
-
 no-faults : (columns rows : ℕ) → badSize columns ≡ false → badSize rows ≡ false → FaultMap columns rows (replicate (columns * rows) 0)
 unfolding badLength badByte
 no-faults columns rows p q =
@@ -46,7 +31,7 @@ no-faults columns rows p q =
       good-columns = p;
       good-rows = q;
       good-length = rw (eq-eqb _ _ (length-replicate {A = ℕ} (columns * rows) 0));
-      good-bytes = small-zeros (columns * rows) 0;
+      good-bytes = none-same (λ i x. ltb 1 x) 0 (λ i. refl) (columns * rows) 0;
     }
 
 one-fault : {columns rows : ℕ} {map : List ℕ} (i : ℕ) → FaultMap columns rows map → FaultMap columns rows (set map i 1)
@@ -56,18 +41,16 @@ one-fault {columns} {rows} {map} i f =
       good-columns = f .good-columns;
       good-rows = f .good-rows;
       good-length = rw (length-set map i 1) (f .good-length);
-      good-bytes = small-set 0 map i (f .good-bytes);
+      good-bytes = none-set (λ i x. ltb 1 x) 0 map i 1 refl (f .good-bytes);
     }
 
 pub fault-map-few : {columns rows : ℕ} {map : List ℕ} → FaultMap columns rows map → columns * rows ≤ 4096
-fault-map-few {columns} {rows} f =
-    few-nodes columns rows (good-size columns (f .good-columns)) (good-size rows (f .good-rows))
+fault-map-few {columns} {rows} f = good-few columns rows (f .good-columns) (f .good-rows)
 
 -- the mesh line
 module _ (columns rows : ℕ) {b d : Bool} (is-b : b ≡ badSize columns) (good-columns : b ≡ false) (is-d : d ≡ badSize rows) (good-rows : d ≡ false) where
   pub mesh-few : columns * rows ≤ 4096
-  mesh-few =
-      few-nodes columns rows (good-size columns (sym is-b ∙ good-columns)) (good-size rows (sym is-d ∙ good-rows))
+  mesh-few = good-few columns rows (sym is-b ∙ good-columns) (sym is-d ∙ good-rows)
 
   pub mesh-made : (t : State) (map : List ℕ) {after : List ℕ} → t .phase ≡ Start → 4096 ≤ length map → after ≡ over map 0 (replicate (columns * rows) 0) →
       Changes (λ n. meshLine (t .phase) n t columns rows) (record { sheet = record { phase = Faults; columns = columns; rows = rows }; says = Nothing }) after

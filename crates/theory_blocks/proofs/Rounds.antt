@@ -7,13 +7,13 @@ use Prim.Native.Nat.{ℕ, zero, suc, _+_, _*_, _/_, _%_, _≤_, _<_}
 use native.Mathlib.Nat.{add-zero, add-suc, suc-add}
 use native.Mathlib.Decide.{decLt}
 use native.Mathlib.Omega.{arith}
-use lib.Dec.{eqb}
 use lib.ListN.{length, getD}
 use Rattle.mesh.specs.Mesh.{Mesh}
 use Rattle.mesh.specs.Nodes.{howMany, bad, unsafe}
 use Rattle.mesh.specs.Rounds.{become, advance, round, on, sameList, later, settle, settled, marked, rounds}
 use Rattle.mesh.proofs.Lists.{same-eq, same-refl}
 use Rattle.mesh.proofs.Bools.{true-false, value}
+use Rattle.mesh.proofs.Counts.{howMany-le}
 use Rattle.theory_blocks.specs.Rounds.{safeNodes, unsafeNodes, after, FirstQuiet}
 use Rattle.theory_blocks.proofs.Rules.{Reason, between-two, crossed, unsafe-reason}
 
@@ -32,12 +32,6 @@ getD-advance u i (x ∷ xs) (suc j) h = rw (add-suc, ← suc-add) (getD-advance 
 pub round-length : (w : Mesh) → length (round w) ≡ length (w .map)
 unfolding round
 round-length w = length-advance _ 0 (w .map)
-
-howMany-le : (n : ℕ) (xs : List ℕ) → howMany n xs ≤ length xs
-unfolding howMany
-howMany-le n [] = omega arith
-howMany-le n (x ∷ xs) =
-    elim (value (eqb x n)) [ inl e ↦ rw e (omega (arith, howMany-le n xs)) | inr e ↦ rw e (omega (arith, howMany-le n xs)) ]
 
 -- Rounds end: safe nodes become unsafe, nothing else changes, and if none does it is the same map.
 record Fewer (xs ys : List ℕ) : Type 0 where

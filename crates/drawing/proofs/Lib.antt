@@ -1,0 +1,3 @@
+pub mod BadDraws
+pub mod Drawing
+pub mod Refusals

@@ -1,0 +1,7 @@
+pub mod Counting
+pub mod Numbering
+pub mod Numbers
+pub mod Draws
+pub mod FaultMaps
+pub mod Drawing
+pub mod Theorems
