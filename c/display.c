@@ -1,5 +1,5 @@
 /* A bench display: marks a map; on each network routes a packet, judges the route and moves the packet along it; then a table of sends,
- * hand-ins that break a turn rule, and the better of both networks.
+ * hand-ins that break a turn rule, the better of both networks, and maps drawn by number.
  *   c/library && cc c/display.c target/staticlib/libpinduguil.a -o display && ./display */
 #include <stdio.h>
 
@@ -53,10 +53,8 @@ static void pick(uint32_t source_row, uint32_t source_column, uint32_t row, uint
     show_route((uint32_t)hops[0], network == PINDUGUIL_FIRST ? letters : others);
 }
 
-int main(void) {
-    map[3 * COLUMNS + 4] = 1;
-    map[4 * COLUMNS + 5] = 1;
-
+/* The map's blocks, and how each node is marked, the northernmost row first. */
+static void show_marks(void) {
     uint64_t rounds[1] = {0};
     uint32_t blocks = pinduguil_mark(COLUMNS, ROWS, map, sizeof map, marks, sizeof marks, rounds, 1);
     printf("blocks %u, rounds %llu\n", (unsigned)blocks, (unsigned long long)rounds[0]);
@@ -64,6 +62,24 @@ int main(void) {
         for (int column = 0; column < COLUMNS; column++) putchar(".FU"[marks[row * COLUMNS + column]]);
         putchar('\n');
     }
+}
+
+/* The map of a number. */
+static void draw(uint32_t number, uint32_t draws) {
+    uint32_t faults = pinduguil_draw(COLUMNS, ROWS, number, draws, map, sizeof map);
+    printf("number %u, %u draws: ", (unsigned)number, (unsigned)draws);
+    if (faults >= PINDUGUIL_REFUSED) {
+        show_refusal(faults - PINDUGUIL_REFUSED);
+        return;
+    }
+    printf("faults %u, ", (unsigned)faults);
+    show_marks();
+}
+
+int main(void) {
+    map[3 * COLUMNS + 4] = 1;
+    map[4 * COLUMNS + 5] = 1;
+    show_marks();
 
     if (follow(PINDUGUIL_FIRST) != 0 || follow(PINDUGUIL_SECOND) != 0) return 1;
 
@@ -114,5 +130,11 @@ int main(void) {
     pick(1, 0, 6, 5, sizeof letters);
     pick(1, 0, 6, 5, 9);
     pick(1, 1, 4, 6, sizeof letters);
+
+    /* Three faults; of six draws two are of a place that was drawn; none; too many draws. */
+    draw(0, 3);
+    draw(2026, 6);
+    draw(7, 0);
+    draw(7, PINDUGUIL_MOST_DRAWS + 1);
     return 0;
 }

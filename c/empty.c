@@ -119,5 +119,14 @@ int main(void) {
     show("legs to letters, no count", pinduguil_legs_to_letters(file, sizeof file, out, sizeof out, NULL, 0));
     printf("letters %.2s\n", (const char *)out);
     show("legs to letters, none of them", pinduguil_legs_to_letters(NULL, 0, NULL, 0, NULL, 0));
+
+    show("draw, no output", pinduguil_draw(COLUMNS, ROWS, 7, 3, NULL, 0));
+    show("draw, no output, no draws", pinduguil_draw(COLUMNS, ROWS, 7, 0, NULL, 0));
+    show("draw, no columns", pinduguil_draw(0, 0, 7, 1001, NULL, 0));
+    show("draw, no rows", pinduguil_draw(1, 0, 7, 1001, NULL, 0));
+    show("draw, no place", pinduguil_draw(4, ROWS, 7, 1, NULL, 0));
+    out[1] = 9;
+    show("draw, no place, no draws", pinduguil_draw(1, 1, 7, 0, out, sizeof out));
+    printf("bytes %u %u\n", (unsigned)out[0], (unsigned)out[1]);
     return 0;
 }

@@ -27,6 +27,8 @@
  *   19 the file is cut short         22 bytes left over after the last leg
  *   20 a number over 65,535,         23 a leg of over 16,384 letters,
  *      or with a group too many         or over 65,535 legs
+ * Drawing a map is refused by 1 and 2, then by 24, then by 10:
+ *   24 more than 1,000 draws, or any draw where no place is allowed: on less than 5 columns or 3 rows
  */
 #ifndef PINDUGUIL_H
 #define PINDUGUIL_H
@@ -66,6 +68,10 @@
 #define PINDUGUIL_SAME_DIRECTION 21u
 #define PINDUGUIL_LEFT_OVER 22u
 #define PINDUGUIL_TOO_LONG 23u
+
+/* The refusal of draws, and how many there may be. */
+#define PINDUGUIL_BAD_DRAWS 24u
+#define PINDUGUIL_MOST_DRAWS 1000u
 
 #ifdef __cplusplus
 extern "C" {
@@ -138,6 +144,14 @@ uint32_t pinduguil_letters_to_legs(const uint8_t *letters, size_t letters_length
  * cut short. Bytes of out after the letters and numbers of written beyond the first are left alone. */
 uint32_t pinduguil_legs_to_letters(const uint8_t *file, size_t file_length, uint8_t *out, size_t out_length,
                                    uint64_t *written, size_t written_length);
+
+/* Draw a map by number: writes the map of a seed, columns * rows bytes, and answers its number of distinct faults, at most draws; or
+ * PINDUGUIL_REFUSED plus 1, 2, 24 or 10. Every other function takes such a map with these columns and rows: 1 to 5 never refuse it.
+ * The places where a fault is allowed, rows 1 to rows - 2 and columns 2 to columns - 3, are numbered from 0, west to east and row by row
+ * from the lowest. The state begins as the seed. Each draw makes it 1,664,525 * state + 1,013,904,223, wrapping at 32 bits, and sets a fault at
+ * the place whose number is the whole part of state * (number of places) / 2^32. A place that is drawn again stays a fault.
+ * Bytes of out beyond the map are left alone; on a refusal all of them are. */
+uint32_t pinduguil_draw(uint32_t columns, uint32_t rows, uint32_t seed, uint32_t draws, uint8_t *out, size_t out_length);
 
 #ifdef __cplusplus
 }

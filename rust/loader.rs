@@ -1,9 +1,9 @@
 //! Loads a map and marks it; on each network routes a packet, judges the route, writes its file of legs and reads it back, and moves the
 //! packet along it; picks the better network; routes a table of sends, with room for all and without; then what bad requests, hand-ins and
-//! files are answered.
+//! files are answered; and a map drawn by number, marked and routed on.
 //!   c/library && rustc -O rust/loader.rs -L target/staticlib -l static=pinduguil -o loader && ./loader
 mod wrapper;
-use wrapper::{legs_to_letters, letters_to_legs, Mesh, Moved, Network, Packet, Place, Refusal, MOST_HOPS};
+use wrapper::{draw, legs_to_letters, letters_to_legs, Mesh, Moved, Network, Packet, Place, Refusal, MOST_HOPS};
 
 /// A route's file, and the letters that are read from it.
 fn show_file(letters: &[u8]) -> Result<(), Refusal> {
@@ -86,5 +86,16 @@ fn main() {
     println!("{:?}", letters_to_legs(b"NX", &mut out));
     for file in [&[2, 0][..], &[1, 128, 0], &[2, 0, 4], &[1, 0, 0]] {
         println!("file {file:02x?}: {:?}", legs_to_letters(file, &mut out));
+    }
+
+    for (columns, rows, draws) in [(10, 8, 6), (10, 8, 1001), (4, 8, 1), (65, 8, 1), (10, 0, 1), (10, 9, 1)] {
+        match draw(columns, rows, 2026, draws, &mut map) {
+            Err(why) => println!("no {}", why.0),
+            Ok((faults, drawn)) => {
+                let blocks = drawn.mark(&mut marks, &mut rounds);
+                println!("faults {faults}, blocks {blocks:?}, rounds {rounds}");
+                println!("{:?}", drawn.route(Network::First, source, destination, &mut out).map(String::from_utf8_lossy));
+            }
+        }
     }
 }

@@ -5,6 +5,9 @@
 /// No route has more hops: an output of this many bytes has room for every route.
 pub const MOST_HOPS: usize = 4034;
 
+/// No mesh has more nodes: an output of this many bytes has room for every map.
+pub const MOST_NODES: usize = 4096;
+
 /// The functions of the library as they are: an answer of 65,536 or more is that plus a refusal. `judge`, `route_batch`, `letters_to_legs` and
 /// `legs_to_letters` answer 0 or what is wrong, `pick` the network or 0. A network is 1 or 2; with another number the answer is 65,536.
 pub mod raw {
@@ -40,6 +43,7 @@ pub mod raw {
             pub fn pinduguil_legs_to_letters(
                 file: *const u8, file_length: usize, out: *mut u8, out_length: usize, written: *mut u64, written_length: usize,
             ) -> u32;
+            pub fn pinduguil_draw(columns: u32, rows: u32, seed: u32, draws: u32, out: *mut u8, out_length: usize) -> u32;
         }
     }
 
@@ -109,9 +113,13 @@ pub mod raw {
         let (f, o, w) = (file.len(), out.len(), written.len());
         unsafe { library::pinduguil_legs_to_letters(file.as_ptr(), f, out.as_mut_ptr(), o, written.as_mut_ptr(), w) }
     }
+
+    pub fn draw(columns: u32, rows: u32, seed: u32, draws: u32, out: &mut [u8]) -> u32 {
+        unsafe { library::pinduguil_draw(columns, rows, seed, draws, out.as_mut_ptr(), out.len()) }
+    }
 }
 
-/// The number of a refusal, 1 to 10; 18 of a table of sends, 11 and 19 to 23 of letters and legs.
+/// The number of a refusal, 1 to 10; 18 of a table of sends, 11 and 19 to 23 of letters and legs, 24 of draws.
 #[derive(Clone, Copy, Debug, PartialEq, Eq)]
 pub struct Refusal(pub u32);
 
@@ -308,6 +316,13 @@ impl Mesh<'_> {
             }
         }
     }
+}
+
+/// Draws the map of a seed to the start of `out`: each draw sets a fault at one of the places where faults are allowed (c/pinduguil.h says
+/// which). Answers the number of distinct faults, and the mesh with that map, which no operation refuses by 1 to 5. Refused: 1, 2, 24, 10.
+pub fn draw(columns: u32, rows: u32, seed: u32, draws: u32, out: &mut [u8]) -> Result<(u32, Mesh<'_>), Refusal> {
+    let faults = answer(raw::draw(columns, rows, seed, draws, out))?;
+    Ok((faults, Mesh { columns, rows, map: &out[..(columns * rows) as usize] }))
 }
 
 /// Writes the file of the letters' straight legs to the start of `out`, and answers it. The file of n letters has at most n + 3 bytes.

@@ -1,8 +1,9 @@
-//! The proved library against rust/plain_mesh.rs and rust/plain_legs.rs on random requests: answers, every byte of an output or a record and
-//! beside it, and that maps, sends, hand-ins, letters and files are as they were. Prints counts; at the first difference it prints the case and
-//! exits with status 1. Each operation has a file of its own.
+//! The proved library against rust/plain_mesh.rs, rust/plain_legs.rs and rust/plain_draw.rs on random requests: answers, every byte of an output
+//! or a record and beside it, and that maps, sends, hand-ins, letters and files are as they were. Prints counts; at the first difference it
+//! prints the case and exits with status 1. Each operation has a file of its own.
 //!   c/library && rustc -O rust/differential/main.rs -L target/staticlib -l static=pinduguil -o differential && ./differential
 mod batch;
+mod drawing;
 mod inputs;
 mod judging;
 mod legs;
@@ -10,6 +11,8 @@ mod lent;
 mod marking;
 mod moving;
 mod picking;
+#[path = "../plain_draw.rs"]
+mod plain_draw;
 #[path = "../plain_legs.rs"]
 mod plain_legs;
 #[path = "../plain_mesh.rs"]
@@ -31,6 +34,7 @@ struct Tests {
     judging: judging::Judging,
     moving: moving::Moving,
     legs: legs::Legs,
+    drawing: drawing::Drawing,
 }
 
 impl Tests {
@@ -70,7 +74,7 @@ impl Tests {
         println!("{outputs} bytes of outputs and {inputs} of inputs compared");
         let met = [
             self.marking.report(), self.routing.report(), self.picking.report(), self.batch.report(), self.judging.report(),
-            self.moving.report(), self.legs.report(),
+            self.moving.report(), self.legs.report(), self.drawing.report(),
         ];
         met.iter().all(|&met| met)
     }
@@ -107,9 +111,11 @@ fn main() {
     }
     let meshes = tests.compared.requests;
     tests.legs.check(&mut rng, &mut tests.compared);
+    let before = tests.compared.requests;
+    tests.drawing.check(&mut rng, &mut tests.compared);
     let all = tests.compared.requests;
-    let (small, legs) = (meshes - largest - sizes, all - meshes);
-    println!("{all} requests, no difference: {sizes} over every size, {largest} on 64 x 64, {small} on small meshes, {legs} of legs");
+    let (small, legs, draws) = (meshes - largest - sizes, before - meshes, all - before);
+    println!("{all} requests, no difference: {sizes} over every size, {largest} on 64 x 64, {small} on small meshes, {legs} of legs, {draws} of draws");
     if !tests.report() {
         println!("an answer or a null pointer was never met");
         std::process::exit(1);

@@ -35,7 +35,7 @@ drawing-none before size cleared =
     record { within = omega arith; state-is = refl; faults-are = refl; map-is = cleared ∙ over-same before 0 ∙ rw size }
 
 -- a place that was among them adds none
-one-more : (b : Bool) {f x n : ℕ} → f ≡ n → x ≡ cond (eqb (cond b 1 0) 0) 1 0 → f + x ≡ cond b 0 1 + n
+one-more : (b : Bool) {f x n : ℕ} → f ≡ n → x ≡ cond (eqb (cond b 1 0) 1) 0 1 → f + x ≡ cond b 0 1 + n
 one-more true e h = omega arith
 one-more false e h = omega arith
 

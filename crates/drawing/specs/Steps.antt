@@ -16,9 +16,9 @@ pub record Ready (columns rows n : ℕ) (map : List ℕ) : Type 0 where
   pub good-draws : badDraws columns rows n ≡ false
   pub size : length map ≡ columns * rows
 
--- the node becomes faulty; x is 1 if it was sound, else 0
+-- the node becomes faulty; x is 0 if it was, else 1
 pub record SetsFault (columns : ℕ) (p : Place) (map : List ℕ) (x : ℕ) (after : List ℕ) : Type 0 where
-  pub counts : x ≡ cond (eqb (getD map (indexOf columns p) 0) 0) 1 0
+  pub counts : x ≡ cond (eqb (getD map (indexOf columns p) 0) 1) 0 1
   pub sets : after ≡ set map (indexOf columns p) 1
 
 -- the map is drawn; x is its number of distinct faults

@@ -29,7 +29,7 @@ fn is_bad_draws(columns: u32, rows: u32, draws: u32) -> bool
     rows < 3
 }
 
-// Sets a fault, and answers 1 if the node was sound, else 0.
+// Sets a fault, and answers how many that adds: none if the node was faulty, else one.
 fn set_fault(columns: u32, map: &mut [u8], p: Place) -> u32
     requires { ⌜ (indexOf columns p < length (now map)) × (indexOf columns p < 4096) ⌝ }
     ensures { λ x. ⌜ SetsFault columns p (now (map .entry)) x (now (map .exit)) ⌝ }
@@ -37,10 +37,10 @@ fn set_fault(columns: u32, map: &mut [u8], p: Place) -> u32
     let at = (p.row.0 * columns + p.column.0) as usize;
     let was = map[at];
     map[at] = 1;
-    if was == 0 {
-        return 1;
+    if was == 1 {
+        return 0;
     }
-    0
+    1
 }
 
 // Draws the map of a mesh, and answers its number of distinct faults.

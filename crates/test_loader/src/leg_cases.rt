@@ -1,6 +1,7 @@
 // Letters to legs, and legs to letters. The output of a file is 9 where no byte is written, that of letters has dots where no letter is.
 use c_legs::leg_refusal_number;
 use test_prints::print;
+use test_prints::print_bytes;
 use test_prints::print_number;
 use theory_legs::Converted;
 use to_legs::letters_to_legs;
@@ -13,20 +14,6 @@ fn print_converted(answer: Converted) {
             print(b"no ");
             print_number(leg_refusal_number(why) as u64)
         }
-    }
-}
-
-fn print_byte(byte: u8) {
-    print(b" ");
-    print_number(byte as u64)
-}
-
-fn print_bytes(bytes: &[u8]) {
-    let n = bytes.len();
-    let mut i = 0;
-    while i < n {
-        print_byte(bytes[i]);
-        i += 1;
     }
 }
 

@@ -1,4 +1,4 @@
-// Maps with one fault or two, and the printing of requests and answers.
+// Maps with one fault or two, and the printing of requests, answers and bytes.
 use libc::STDOUT_FILENO;
 use mesh::Place;
 use numbers::place_of;
@@ -61,4 +61,19 @@ pub fn print_answer(code: u32) {
     }
     print(b": no ");
     print_number((code - 65536) as u64);
+}
+
+fn print_byte(byte: u8) {
+    print(b" ");
+    print_number(byte as u64)
+}
+
+// Bytes as numbers.
+pub fn print_bytes(bytes: &[u8]) {
+    let n = bytes.len();
+    let mut i = 0;
+    while i < n {
+        print_byte(bytes[i]);
+        i += 1;
+    }
 }

@@ -27,7 +27,7 @@ add-result c = search needs
 
 returns-3 : tie.Need-returns-3
 unfolding refusalCode
-returns-3 c = cc
+returns-3 c = search needs
 
 pub drawn-code-spec : {M : Type 1} → statement M
 drawn-code-spec =

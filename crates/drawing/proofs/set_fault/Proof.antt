@@ -32,14 +32,14 @@ same-length c = search needs
 
 returns : tie.Need-returns
 unfolding indexOf
-returns c = record { counts = rw (eq-eqb _ 0 (c .if1 .taken)); sets = refl }
+returns c = record { counts = rw (eq-eqb _ 1 (c .if1 .taken)); sets = refl }
 
 same-length-2 : tie.Need-same-length-2
 same-length-2 c = search needs
 
 returns-2 : tie.Need-returns-2
 unfolding indexOf
-returns-2 c = record { counts = rw (ne-eqb _ 0 (c .if1 .left)); sets = refl }
+returns-2 c = record { counts = rw (ne-eqb _ 1 (c .if1 .left)); sets = refl }
 
 pub set-fault-spec : {M : Type 1} → statement M
 set-fault-spec =

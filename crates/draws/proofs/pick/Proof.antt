@@ -10,7 +10,7 @@ mul-result : tie.Need-mul-result
 mul-result c = record { fits = product-fits 32 (search needs) (search needs) }
 
 cast-result : tie.Need-cast-result
-cast-result c = record { fits = picked-fits (search needs) (search needs) }
+cast-result c = search (needs, picked-fits)
 
 returns : tie.Need-returns
 unfolding picked

@@ -2,8 +2,8 @@
 use Prim.Native.Nat.{_≤_, _-_}
 use native.Mathlib.Omega.{arith}
 use borrow.Author.Needs.{needs}
-use Rattle.test_loader.proofs.leg_cases.print_bytes.Statement.{statement}
-use Rattle.test_loader.proofs.leg_cases.print_bytes.Tie as tie
+use Rattle.test_prints.proofs.print_bytes.Statement.{statement}
+use Rattle.test_prints.proofs.print_bytes.Tie as tie
 
 abbrev Inv-loop : tie.InvT-loop
 Inv-loop bytes n i₀ i = i ≤ n
