@@ -1,12 +1,16 @@
 //! The operations on 64 x 64 (turning: on 64 x 2), the proved library against rust/plain_mesh.rs. A case is a list of calls; each checks and
 //! marks its map. All are on the first network but second-network, and picking, which routes on both. A table of sends is one call; singles-N
-//! sets it against as many single calls of the library. Letters to legs and back, against rust/plain_legs.rs, are one call and have no map.
+//! sets it against as many single calls of the library. Letters to legs and back, against rust/plain_legs.rs, are one call and have no map; nor
+//! have draws, a list of numbers each, against rust/plain_draw.rs or speed/fast_draw.rs.
 //!   operations CASE                   compares answers and output bytes; prints what was done, and then in one line the units of work in
 //!                                     the list and its nanoseconds, each call at its best, proved and plain
 //!   operations CASE proved|plain N    makes the first N calls and prints nothing, for counting instructions
 //! Cases: most-rounds, dense, judging, turning, either of these also with -nothing, one-map, second-network, many-maps, picking, moving,
-//! table-N, singles-N, and by what is written legs-L and letters-L, where L is straight, mixed or turning. `speed/run` builds it and shows its
-//! figures.
+//! table-N, singles-N, draws-N, fast-draws-N, and by what is written legs-L and letters-L, where L is straight, mixed or turning. `speed/run`
+//! builds it and shows its figures.
+mod fast_draw;
+#[path = "../rust/plain_draw.rs"]
+mod plain_draw;
 #[path = "../rust/plain_legs.rs"]
 mod plain_legs;
 #[path = "../rust/plain_mesh.rs"]
@@ -32,6 +36,7 @@ struct Case {
     letters: Vec<u8>,
     file: Vec<u8>,   // of the legs of these letters
     sends: Vec<u32>, // a table's
+    draws: u32,
     room: usize,     // bytes of output
     second: usize,   // the same of the second network, for a pick
     calls: usize,
@@ -47,7 +52,7 @@ struct Lent {
     index: [u64; 1], // or the number of a table's letters, of a pick's, or of what is written
     refusal: [u64; 1],
     packet: [u32; 5],
-    trips: usize, // how many are begun
+    trips: usize, // how many are begun, or numbers drawn by
     moving: bool, // whether the last one goes on
 }
 
@@ -172,6 +177,24 @@ fn plain_to_letters(case: &Case, lent: &mut Lent) -> u32 {
     plain_legs::legs_to_letters(&case.file, &mut lent.out, &mut lent.index)
 }
 
+/// Draws the map of the next number.
+fn draw_by(case: &Case, lent: &mut Lent, draw: impl FnOnce(u32, u32, u32, u32, &mut [u8]) -> u32) -> u32 {
+    lent.trips += 1;
+    draw(case.columns, case.rows, lent.trips as u32, case.draws, &mut lent.out)
+}
+
+fn proved_draw(case: &Case, lent: &mut Lent) -> u32 {
+    draw_by(case, lent, raw::draw)
+}
+
+fn plain_draw(case: &Case, lent: &mut Lent) -> u32 {
+    draw_by(case, lent, plain_draw::draw)
+}
+
+fn fast_draw(case: &Case, lent: &mut Lent) -> u32 {
+    draw_by(case, lent, fast_draw::draw)
+}
+
 fn at(row: usize, column: usize) -> usize {
     row * 64 + column
 }
@@ -258,6 +281,7 @@ fn marking(map: Vec<u8>) -> Case {
         letters: vec![],
         file: vec![],
         sends: vec![],
+        draws: 0,
         room: NODES + 8,
         second: 0,
         calls: 1,
@@ -318,6 +342,11 @@ fn legs(rng: &mut Random, n: usize, lengths: [usize; 2], sides: [fn(&Case, &mut 
     Case { room: letters.len() + 8, letters, file: plain_legs::file_of(&legs), sides, ..marking(vec![]) }
 }
 
+/// Maps of so many draws each.
+fn drawing(draws: u32, other: fn(&Case, &mut Lent) -> u32) -> Case {
+    Case { draws, calls: 500, sides: [proved_draw, other], ..marking(vec![]) }
+}
+
 /// How many requests on one map: REQUESTS, or 2,000.
 fn requests() -> usize {
     std::env::var("REQUESTS").map_or(2000, |n| n.parse().unwrap())
@@ -355,6 +384,10 @@ fn find_case(name: &str) -> Case {
         "letters-straight" => legs(&mut rng, 1000, [16_384; 2], [proved_to_letters, plain_to_letters]),
         "letters-mixed" => legs(&mut rng, 20_000, [1, 20], [proved_to_letters, plain_to_letters]),
         "letters-turning" => legs(&mut rng, 65_535, [1; 2], [proved_to_letters, plain_to_letters]),
+        "draws-1000" => drawing(1000, plain_draw),
+        "draws-20" => drawing(20, plain_draw),
+        "fast-draws-1000" => drawing(1000, fast_draw),
+        "fast-draws-20" => drawing(20, fast_draw),
         _ => panic!("no case {}", name),
     }
 }
@@ -416,6 +449,10 @@ fn compare(name: &str, case: &Case) -> (String, u64) {
             let (letters, file) = (case.letters.len(), case.file.len());
             let way = if name.starts_with("legs") { "letters to legs" } else { "legs to letters" };
             (format!("{way}: {letters} letters, a file of {file} bytes, both answer {last}, outputs equal"), letters as u64)
+        }
+        _ if name.contains("draws-") => {
+            let draws = case.draws;
+            (format!("draw on 64 x 64: {calls} numbers of {draws} draws each, {hops} faults, outputs equal"), calls as u64)
         }
         "moving" => (
             format!("move on, {trips} routes from source to arrival on one map, {faults} faults: {calls} calls, records equal"),
