@@ -115,7 +115,8 @@ fn main() {
     tests.drawing.check(&mut rng, &mut tests.compared);
     let all = tests.compared.requests;
     let (small, legs, draws) = (meshes - largest - sizes, before - meshes, all - before);
-    println!("{all} requests, no difference: {sizes} over every size, {largest} on 64 x 64, {small} on small meshes, {legs} of legs, {draws} of draws");
+    println!("{all} requests, no difference: {sizes} over every size, {largest} on 64 x 64, {small} on small meshes");
+    println!("    and {legs} of legs, {draws} of draws");
     if !tests.report() {
         println!("an answer or a null pointer was never met");
         std::process::exit(1);

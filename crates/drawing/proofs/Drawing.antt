@@ -6,7 +6,7 @@ use Prim.Native.Nat.{ℕ, _+_, _*_, _≤_, _<_}
 use native.Mathlib.Numerals.{add-one}
 use native.Mathlib.Omega.{arith}
 use lib.Dec.{eqb}
-use lib.ListN.{length, replicate}
+use lib.ListN.{length, getD, replicate}
 use Rattle.mesh.specs.declared.Place.{Place}
 use Rattle.mesh.proofs.Index.{few-nodes}
 use Rattle.buffers.specs.Over.{over}
@@ -34,6 +34,14 @@ unfolding stateAfter drawnFaults drawnMap drawnPlaces distinct faultMap
 drawing-none before size cleared =
     record { within = omega arith; state-is = refl; faults-are = refl; map-is = cleared ∙ over-same before 0 ∙ rw size }
 
+-- a draw adds one fault at most
+pub adds-one : {columns : ℕ} {p : Place} {map : List ℕ} {x : ℕ} {after : List ℕ} → SetsFault columns p map x after → x ≤ 1
+adds-one {columns} {p} {map} s = rw (s .counts) (at-most (eqb (getD map (indexOf columns p) 0) 1))
+  where
+    at-most : (b : Bool) → cond b 0 1 ≤ 1
+    at-most true = omega arith
+    at-most false = omega arith
+
 -- a place that was among them adds none
 one-more : (b : Bool) {f x n : ℕ} → f ≡ n → x ≡ cond (eqb (cond b 1 0) 1) 0 1 → f + x ≡ cond b 0 1 + n
 one-more true e h = omega arith
@@ -55,7 +63,8 @@ module _ {columns rows seed n i state faults : ℕ} {map : List ℕ} (d : Drawin
         let on = index-on columns rows p allowed-place in
         (omega (arith, drawn-size), omega (arith, few-nodes columns rows h k))
 
-    pub drawing-more : {x : ℕ} {after : List ℕ} → i < n → SetsFault columns p map x after → Drawing columns rows seed n (i + 1) next (faults + x) after
+    pub drawing-more : {x : ℕ} {after : List ℕ} → i < n → SetsFault columns p map x after →
+        Drawing columns rows seed n (i + 1) next (faults + x) after
     unfolding stateAfter drawnFaults drawnMap drawnPlaces distinct faultMap
     drawing-more h s =
         let now : next ≡ nextState (stateAfter seed i) = en ∙ ap nextState (d .state-is) in

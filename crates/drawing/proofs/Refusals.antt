@@ -55,7 +55,8 @@ module _ (columns rows seed n : ℕ) (out : List ℕ) where
           unfolding drawRefusal drawTests first
           none-refused = rw (no-columns, no-rows, no-draws, le-ltb (length out) (columns * rows) room)
 
-          pub drawn : {x : ℕ} {map : List ℕ} → Fills columns rows seed n x map → DrawsMap columns rows seed n out (Faults x) (map ++ drop (columns * rows) out)
+          pub drawn : {x : ℕ} {map : List ℕ} → Fills columns rows seed n x map →
+              DrawsMap columns rows seed n out (Faults x) (map ++ drop (columns * rows) out)
           unfolding answer written
           drawn f =
               record { answers = rw (none-refused, f .counts); writes = rw (none-refused, f .fills, map-length columns rows seed n) }

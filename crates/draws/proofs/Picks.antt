@@ -6,7 +6,8 @@ use native.Mathlib.Omega.{arith}
 use lib.Pow.{shr-lt}
 use Rattle.mesh.specs.Mesh.{place}
 use Rattle.theory_draw.specs.Draws.{nextState, placeCount, picked, pickedPlace}
-use Rattle.theory_draw.proofs.Theorems.{place-count, place-of-number, some-place}
+use Rattle.theory_draw.proofs.Theorems.{place-count, place-of-number}
+use Rattle.theory_draw.proofs.Numbers.{some-place}
 use Rattle.theory_draw.proofs.Draws.{picked-below}
 use Rattle.draws.proofs.Product.{product-fits}
 

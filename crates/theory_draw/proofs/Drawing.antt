@@ -36,7 +36,8 @@ unrefused columns rows n out h =
     let (no-columns, (no-rows, (no-draws, (no-room, _)))) = first-none _ (draw-numbered columns rows n out) h in
     record { good-columns = no-columns; good-rows = no-rows; good-draws = no-draws; room = ltb-false _ _ no-room }
 
-pub passes-on : (columns rows : ℕ) (map : List ℕ) → badSize columns ≡ false → badSize rows ≡ false → Passes columns rows map → first (mapTests columns rows map) ≡ 0
+pub passes-on : (columns rows : ℕ) (map : List ℕ) → badSize columns ≡ false → badSize rows ≡ false → Passes columns rows map →
+    first (mapTests columns rows map) ≡ 0
 unfolding mapTests first
 passes-on columns rows map p q pass = rw (p, q, pass .good-length, pass .good-bytes, pass .placed)
 

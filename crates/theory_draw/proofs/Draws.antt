@@ -1,20 +1,21 @@
 -- States are below 2^32, a draw picks a number of the places, and every drawn place is an allowed one. Assumes nothing.
 use mathlib.Core.Path.{_≡_, refl}
-use mathlib.Core.Bool.{false}
+use mathlib.Core.Logic.{_⊎_, inl, inr, _↔_}
+use mathlib.Core.Bool.{true, false, _&&_, _||_, or-true}
 use mathlib.Core.List.{List, [], _∷_}
 use Prim.Native.Nat.{ℕ, zero, suc, _*_, _^_, _≤_, _<_}
 use native.Mathlib.Nat.{mul-comm, mod-lt, mul-lt-mul-of-pos-left, div-lt-iff-lt-mul}
 use native.Mathlib.Omega.{arith}
-use borrow.Author.Tests.{ltb-false, eqb-false, lt-ltb}
-use lib.Dec.{ltb}
+use borrow.Author.Tests.{ltb-true, ltb-false, eqb-true, eqb-false, lt-ltb, eq-eqb}
+use lib.Dec.{ltb, eqb}
 use lib.Pow.{pow-pos}
 use lib.ListN.{length}
 use Rattle.mesh.specs.declared.Place.{Place}
-use Rattle.mesh.proofs.Bools.{and-right, or-none}
+use Rattle.mesh.proofs.Bools.{and-both, and-right, or-cases, or-none}
 use Rattle.theory_draw.specs.Draws.{nextState, stateAfter, placeCount, picked, pickedPlace, drawnPlaces}
 use Rattle.theory_draw.specs.Drawing.{badDraws}
 use Rattle.theory_draw.specs.Claims.{Allowed}
-use Rattle.theory_draw.proofs.Numbers.{numbered-allowed}
+use Rattle.theory_draw.proofs.Numbers.{no-place, numbered-allowed}
 
 pub next-below : (state : ℕ) → nextState state < 2 ^ 32
 unfolding nextState
@@ -46,6 +47,24 @@ module _ (columns rows n : ℕ) (good : badDraws columns rows n ≡ false) where
   some-places h =
       let none = eqb-false (placeCount columns rows) 0 (and-right (ltb 0 n) _ (lt-ltb _ _ h) (or-none (ltb 1000 n) _ good .1)) in
       omega (arith, none)
+
+-- refusal 24 applies
+pub draws-refused : (columns rows n : ℕ) → badDraws columns rows n ≡ true ↔ (1000 < n) ⊎ ((0 < n) × ((columns < 5) ⊎ (rows < 3)))
+unfolding badDraws
+draws-refused columns rows n = (told, holds)
+  where
+    told : ltb 1000 n || (ltb 0 n && eqb (placeCount columns rows) 0) ≡ true → (1000 < n) ⊎ ((0 < n) × ((columns < 5) ⊎ (rows < 3)))
+    told e =
+        elim (or-cases (ltb 1000 n) _ e) [
+          | inl many ↦ inl (ltb-true 1000 n many)
+          | inr drawn ↦
+              let (some, zero-places) = and-both {a = ltb 0 n} drawn in
+              inr (ltb-true 0 n some, no-place columns rows .0 (eqb-true _ _ zero-places))
+        ]
+
+    holds : (1000 < n) ⊎ ((0 < n) × ((columns < 5) ⊎ (rows < 3))) → ltb 1000 n || (ltb 0 n && eqb (placeCount columns rows) 0) ≡ true
+    holds (inl many) = rw (lt-ltb 1000 n many)
+    holds (inr (some, small)) = rw (lt-ltb 0 n some, eq-eqb (placeCount columns rows) 0 (no-place columns rows .1 small)) (or-true (ltb 1000 n))
 
 module _ (columns rows : ℕ) where
   pub picked-allowed : 0 < placeCount columns rows → (state : ℕ) → state < 2 ^ 32 → Allowed columns rows (pickedPlace columns rows state)

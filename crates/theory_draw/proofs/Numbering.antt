@@ -106,7 +106,8 @@ module _ (columns rows : ℕ) where
         let on : c < columns = omega arith in
         let at = index-within columns r c on rows (omega arith) in
         select-at (allowedAt columns rows) (λ i. place (i / columns) (i % columns)) (columns * rows) 0 (r * columns + c)
-        ((r - 1) * (columns - 4) + (c - 2)) (place 0 0) (omega arith) (omega arith) (at-place r c on ∙ allowed-true columns rows r c p) (omega (arith, number-of))
+        ((r - 1) * (columns - 4) + (c - 2)) (place 0 0) (omega arith) (omega arith)
+        (at-place r c on ∙ allowed-true columns rows r c p) (omega (arith, number-of))
         ∙ rw (index-row columns r c on, index-column columns r c on)
 
   -- the place of a number

@@ -1,6 +1,6 @@
 -- The numbering is one to one between the numbers below the number of places and the allowed places, and in map order. Assumes nothing.
 use mathlib.Core.Path.{_≡_, sym, ap, _∙_}
-use mathlib.Core.Logic.{_⊎_, inl, inr}
+use mathlib.Core.Logic.{_⊎_, inl, inr, _↔_}
 use Prim.Native.Nat.{ℕ, _+_, _-_, _*_, _/_, _%_, _≤_, _<_}
 use native.Mathlib.Nat.{zero-mul, mul-zero, mul-comm, mul-pos, div-add-mod'}
 use native.Mathlib.Decide.{decLt}
@@ -17,17 +17,27 @@ module _ (columns rows : ℕ) where
   few : (k : ℕ) → k < placeCount columns rows → k < (rows - 2) * (columns - 4)
   few k h = rw (place-count columns rows) at h
 
-  pub no-place : (columns < 5) ⊎ (rows < 3) → placeCount columns rows ≡ 0
-  no-place (inl h) =
+  small-none : (columns < 5) ⊎ (rows < 3) → placeCount columns rows ≡ 0
+  small-none (inl h) =
       let none : columns - 4 ≡ 0 = omega arith in
       place-count columns rows ∙ rw (none, mul-zero (rows - 2))
-  no-place (inr h) =
+  small-none (inr h) =
       let none : rows - 2 ≡ 0 = omega arith in
       place-count columns rows ∙ rw (none, zero-mul (columns - 4))
 
   pub some-place : 5 ≤ columns → 3 ≤ rows → 0 < placeCount columns rows
   some-place w h =
       rw (place-count columns rows) (mul-pos {m = rows - 2} {n = columns - 4} (omega arith) (omega arith))
+
+  pub no-place : placeCount columns rows ≡ 0 ↔ (columns < 5) ⊎ (rows < 3)
+  no-place = (
+    λ e.
+        elim (decLt columns 5) [
+          | yes w ↦ inl w
+          | no w ↦ elim (decLt rows 3) [ yes h ↦ inr h | no h ↦ absurd (omega (arith, some-place (omega arith) (omega arith))) ]
+        ],
+    small-none,
+  )
 
   pub numbered-allowed : (k : ℕ) → k < placeCount columns rows → Allowed columns rows (placeNumbered columns rows k)
   numbered-allowed k h =
@@ -63,7 +73,8 @@ module _ (columns rows : ℕ) where
       rw (place-of-number columns rows k low)
       (number-of columns rows _ _ (place-inner columns rows k low) ∙ rw (row, column) (div-add-mod' k (columns - 4)))
 
-  pub numbered-in-order : (j k : ℕ) → j < k → k < placeCount columns rows → indexOf columns (placeNumbered columns rows j) < indexOf columns (placeNumbered columns rows k)
+  pub numbered-in-order : (j k : ℕ) → j < k → k < placeCount columns rows →
+      indexOf columns (placeNumbered columns rows j) < indexOf columns (placeNumbered columns rows k)
   numbered-in-order j k h low =
       let a = indexOf columns (placeNumbered columns rows j) in
       let b = indexOf columns (placeNumbered columns rows k) in

@@ -37,15 +37,17 @@ mul-n : tie.Need-mul-n
 mul-n c =
     let at-if2 = c .before .before in
     let at-if1 = at-if2 .before .before in
-    omega
-    (arith, good-few _ _ (sym (at-if1 .before .is-bad-size .ensures) ∙ at-if1 .if1 .left) (sym (at-if2 .before .is-bad-size2 .ensures) ∙ at-if2 .if2 .left))
+    let no-columns = sym (at-if1 .before .is-bad-size .ensures) ∙ at-if1 .if1 .left in
+    let no-rows = sym (at-if2 .before .is-bad-size2 .ensures) ∙ at-if2 .if2 .left in
+    omega (arith, good-few _ _ no-columns no-rows)
 
 cast-n : tie.Need-cast-n
 cast-n c =
     let at-if2 = c .before .before in
     let at-if1 = at-if2 .before .before in
-    omega
-    (arith, good-few _ _ (sym (at-if1 .before .is-bad-size .ensures) ∙ at-if1 .if1 .left) (sym (at-if2 .before .is-bad-size2 .ensures) ∙ at-if2 .if2 .left))
+    let no-columns = sym (at-if1 .before .is-bad-size .ensures) ∙ at-if1 .if1 .left in
+    let no-rows = sym (at-if2 .before .is-bad-size2 .ensures) ∙ at-if2 .if2 .left in
+    omega (arith, good-few _ _ no-columns no-rows)
 
 returns-4 : tie.Need-returns-4
 returns-4 c =

@@ -5,7 +5,7 @@ use borrow.Author.Needs.{needs}
 use native.Mathlib.Omega.{arith}
 use Rattle.theory_draw.proofs.Draws.{few-draws, some-places}
 use Rattle.drawing.proofs.BadDraws.{large}
-use Rattle.drawing.proofs.Drawing.{Drawing, drawing-none, drawn-size, drawn-few, index-fits, drawing-more}
+use Rattle.drawing.proofs.Drawing.{Drawing, drawing-none, drawn-size, drawn-few, adds-one, index-fits, drawing-more}
 use Rattle.drawing.proofs.draw_map.Statement.{statement}
 use Rattle.drawing.proofs.draw_map.Tie as tie
 
@@ -42,11 +42,7 @@ add-faults c =
     let at-set-fault = c .before .before in
     let at-loop = at-set-fault .before .before .before .before .before in
     let ready = at-loop .before .before .before .before .before .before .pre in
-    let more =
-    drawing-more (at-loop .loop .inv) (some-places _ _ _ (ready .good-draws) (omega arith)) (at-set-fault .before .before .before .next-state .ensures)
-    (at-set-fault .before .pick-place .ensures) (omega arith) (at-set-fault .set-fault .ensures)
-    in
-    omega (arith, drawn-few more, few-draws _ _ _ (ready .good-draws))
+    omega (arith, drawn-few (at-loop .loop .inv), adds-one (at-set-fault .set-fault .ensures), few-draws _ _ _ (ready .good-draws))
 
 add-i : tie.Need-add-i Inv-loop μ-loop
 add-i c = omega arith
