@@ -64,9 +64,11 @@ unfoldable pub faultMap : ℕ → ℕ → List Place → List ℕ
 faultMap columns rows [] = replicate (columns * rows) 0
 faultMap columns rows (p ∷ ps) = set (faultMap columns rows ps) (indexOf columns p) 1
 
+-- two places are the same
 unfoldable pub samePlace : Place → Place → Bool
 samePlace p q = eqb (p .row .0) (q .row .0) && eqb (p .column .0) (q .column .0)
 
+-- a place is one of a list
 unfoldable pub isAmong : Place → List Place → Bool
 isAmong p [] = false
 isAmong p (q ∷ qs) = samePlace p q || isAmong p qs
