@@ -1,4 +1,5 @@
 pub mod Counting
+pub mod Grids
 pub mod Numbering
 pub mod Numbers
 pub mod Draws
