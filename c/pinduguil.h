@@ -28,7 +28,7 @@
  *   20 a number over 65,535,         23 a leg of over 16,384 letters,
  *      or with a group too many         or over 65,535 legs
  * Drawing a map is refused by 1 and 2, then by 24, then by 10:
- *   24 more than 1,000 draws, or any draw where no place is allowed: on less than 5 columns or 3 rows
+ *   24 more than 1,000 draws, or any draw where no place is allowed: on fewer than 5 columns or 3 rows
  */
 #ifndef PINDUGUIL_H
 #define PINDUGUIL_H
@@ -48,6 +48,9 @@
 
 /* No route has more hops: an output of this many bytes has room for every route. */
 #define PINDUGUIL_MOST_HOPS 4034
+
+/* No mesh has more nodes: an output of this many bytes has room for every map. */
+#define PINDUGUIL_MOST_NODES 4096
 
 /* The refusal of a table of sends that is no table. */
 #define PINDUGUIL_NOT_SENDS 18u
@@ -146,7 +149,7 @@ uint32_t pinduguil_legs_to_letters(const uint8_t *file, size_t file_length, uint
                                    uint64_t *written, size_t written_length);
 
 /* Draw a map by number: writes the map of a seed, columns * rows bytes, and answers its number of distinct faults, at most draws; or
- * PINDUGUIL_REFUSED plus 1, 2, 24 or 10. Every other function takes such a map with these columns and rows: 1 to 5 never refuse it.
+ * PINDUGUIL_REFUSED plus 1, 2, 24 or 10. Every function that takes a map takes this one with these columns and rows: 1 to 5 never refuse it.
  * The places where a fault is allowed, rows 1 to rows - 2 and columns 2 to columns - 3, are numbered from 0, west to east and row by row
  * from the lowest. The state begins as the seed. Each draw makes it 1,664,525 * state + 1,013,904,223, wrapping at 32 bits, and sets a fault at
  * the place whose number is the whole part of state * (number of places) / 2^32. A place that is drawn again stays a fault.

@@ -3,11 +3,11 @@
 //!   draw 16 12 7 9 | sheet
 //!   { draw 16 12 7 9; cat sends.txt; } | sheet
 //! To build it:
-//!   c/library && rustc -O rust/draw.rs -L target/staticlib -l static=pinduguil -o draw
+//!   c/library && rustc -O rust/draw.rs -L target/staticlib -l static=pinduguil -o target/draw
 mod wrapper;
 use std::io::Write;
 use std::process::ExitCode;
-use wrapper::{draw, Mesh, Refusal, MOST_NODES};
+use wrapper::{draw, Mesh, Refusal, MOST_DRAWS, MOST_NODES};
 
 const USAGE: &str = "usage: draw COLUMNS ROWS NUMBER DRAWS\n  \
     prints the sheet of a number below 4294967296: a mesh of 1 to 64 columns and rows, and the faults of at most 1000 draws";
@@ -27,12 +27,13 @@ fn in_words(why: Refusal, [columns, rows, _, draws]: [u32; 4]) -> String {
     match why.0 {
         1 => format!("draw: COLUMNS is not 1 to 64: {columns}"),
         2 => format!("draw: ROWS is not 1 to 64: {rows}"),
-        24 if draws > 1000 => format!("draw: DRAWS is above 1000: {draws}"),
+        24 if draws > MOST_DRAWS => format!("draw: DRAWS is above {MOST_DRAWS}: {draws}"),
         24 => format!("draw: no fault is allowed on {columns} columns and {rows} rows, only on 5 columns and 3 rows or more"),
         other => format!("draw: refused by {other}"),
     }
 }
 
+/// The mesh line, and a line for each fault in the order of the map.
 fn sheet(mesh: &Mesh) -> String {
     let mut text = format!("mesh {} {}\n", mesh.columns, mesh.rows);
     for (row, nodes) in mesh.map.chunks(mesh.columns as usize).enumerate() {

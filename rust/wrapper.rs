@@ -8,6 +8,9 @@ pub const MOST_HOPS: usize = 4034;
 /// No mesh has more nodes: an output of this many bytes has room for every map.
 pub const MOST_NODES: usize = 4096;
 
+/// More draws of a map are refused.
+pub const MOST_DRAWS: u32 = 1000;
+
 /// The functions of the library as they are: an answer of 65,536 or more is that plus a refusal. `judge`, `route_batch`, `letters_to_legs` and
 /// `legs_to_letters` answer 0 or what is wrong, `pick` the network or 0. A network is 1 or 2; with another number the answer is 65,536.
 pub mod raw {

@@ -1,7 +1,7 @@
 //! The operations on 64 x 64 (turning: on 64 x 2), the proved library against rust/plain_mesh.rs. A case is a list of calls; each checks and
 //! marks its map. All are on the first network but second-network, and picking, which routes on both. A table of sends is one call; singles-N
-//! sets it against as many single calls of the library. Letters to legs and back, against rust/plain_legs.rs, are one call and have no map; nor
-//! have draws, a list of numbers each, against rust/plain_draw.rs or speed/fast_draw.rs.
+//! sets it against as many single calls of the library. Letters to legs and back, against rust/plain_legs.rs, are one call and have no map. Draws,
+//! against rust/plain_draw.rs or speed/fast_draw.rs, have none either: each call takes the next number.
 //!   operations CASE                   compares answers and output bytes; prints what was done, and then in one line the units of work in
 //!                                     the list and its nanoseconds, each call at its best, proved and plain
 //!   operations CASE proved|plain N    makes the first N calls and prints nothing, for counting instructions

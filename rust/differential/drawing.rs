@@ -52,20 +52,7 @@ impl Drawing {
         if answer < REFUSED {
             self.again += (answer < draws) as u64;
             self.most = self.most.max(answer);
-            self.check_map(case, answer, &out.room()[..n]);
-        }
-    }
-
-    /// The map is one that operations take, and the safe function hands it back.
-    fn check_map(&self, case: (u32, u32, u32, u32), faults: u32, map: &[u8]) {
-        let (columns, rows, seed, draws) = case;
-        let mut out = [0; wrapper::MOST_NODES];
-        let drawn = wrapper::draw(columns, rows, seed, draws, &mut out);
-        if !drawn.is_ok_and(|(n, mesh)| n == faults && mesh.map == map && (mesh.columns, mesh.rows) == (columns, rows)) {
-            differs("draw", &case, format!("the safe function hands back something else than {map:?}"));
-        }
-        if let Err(why) = plain_mesh::check_map(columns, rows, map) {
-            differs("draw", &case, format!("its map is refused by {why}: {map:?}"));
+            check_map(case, answer, &out.room()[..n]);
         }
     }
 
@@ -76,5 +63,18 @@ impl Drawing {
         println!("draw: answered {served}, with a place drawn again {again}, most faults {most}; refusals 1, 2, 24, 10: {:?}; null for output: {}",
             [columns, rows, draws, room], null[0]);
         met(answers, [0, 1, 2, 10, 24]) && *again > 0 && null[0] > 0
+    }
+}
+
+/// The map is one that operations take, and the safe function hands it back.
+fn check_map(case: (u32, u32, u32, u32), faults: u32, map: &[u8]) {
+    let (columns, rows, seed, draws) = case;
+    let mut out = [0; wrapper::MOST_NODES];
+    let drawn = wrapper::draw(columns, rows, seed, draws, &mut out);
+    if !drawn.is_ok_and(|(n, mesh)| n == faults && mesh.map == map && (mesh.columns, mesh.rows) == (columns, rows)) {
+        differs("draw", &case, format!("the safe function hands back something else than {map:?}"));
+    }
+    if let Err(why) = plain_mesh::check_map(columns, rows, map) {
+        differs("draw", &case, format!("its map is refused by {why}: {map:?}"));
     }
 }

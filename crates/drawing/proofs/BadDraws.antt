@@ -30,12 +30,12 @@ module _ (columns rows draws : ℕ) where
   pub many-draws : 1000 < draws → true ≡ badDraws columns rows draws
   many-draws h = sym (refused (inl h))
 
-  module _ (some : draws ≡ 0 → ⊥) (few : draws ≤ 1000) where
+  module _ (some : draws ≡ 0 → ⊥) where
     pub narrow : columns < 5 → true ≡ badDraws columns rows draws
     narrow h = sym (refused (inr (omega (arith, some), inl h)))
 
-    pub low : 5 ≤ columns → ltb rows 3 ≡ badDraws columns rows draws
-    low wide =
+    pub low : draws ≤ 1000 → 5 ≤ columns → ltb rows 3 ≡ badDraws columns rows draws
+    low few wide =
         elim (decLt rows 3) [
           | yes h ↦ lt-ltb rows 3 h ∙ sym (refused (inr (omega (arith, some), inr h)))
           | no h ↦ le-ltb rows 3 (omega arith) ∙ sym (not-refused (omega arith))

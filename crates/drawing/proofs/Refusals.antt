@@ -15,7 +15,7 @@ use Rattle.mesh.proofs.Maps.{good-size}
 use Rattle.mesh.proofs.Numbers.{answer-refused, written-refused}
 use Rattle.theory_draw.specs.declared.Drawn.the-variants.{Faults, Refused, BadDraws}
 use Rattle.theory_draw.specs.Drawing.{badDraws, drawTests, drawRefusal, DrawsMap}
-use Rattle.theory_draw.proofs.Drawing.{map-length}
+use Rattle.theory_draw.proofs.Drawing.{Unrefused, map-length}
 use Rattle.drawing.specs.Steps.{Ready, Fills}
 
 module _ (columns rows seed n : ℕ) (out : List ℕ) where
@@ -41,22 +41,23 @@ module _ (columns rows seed n : ℕ) (out : List ℕ) where
         unfolding drawRefusal drawTests first
         room-refused h = refused Room (rw (no-columns, no-rows, no-draws, lt-ltb _ _ h))
 
-        module _ (room : columns * rows ≤ length out) where
-          pub ready : Ready columns rows n (take (columns * rows) out)
-          ready =
-              record {
-                few-columns = good-size columns no-columns;
-                few-rows = good-size rows no-rows;
-                good-draws = no-draws;
-                size = length-take-le _ _ room;
-              }
+-- nothing is refused
+module _ {columns rows n : ℕ} {out : List ℕ} (u : Unrefused columns rows n out) where
+  pub ready : Ready columns rows n (take (columns * rows) out)
+  ready =
+      record {
+        few-columns = good-size columns (u .good-columns);
+        few-rows = good-size rows (u .good-rows);
+        good-draws = u .good-draws;
+        size = length-take-le _ _ (u .room);
+      }
 
-          none-refused : drawRefusal columns rows n out ≡ 0
-          unfolding drawRefusal drawTests first
-          none-refused = rw (no-columns, no-rows, no-draws, le-ltb (length out) (columns * rows) room)
+  none-refused : drawRefusal columns rows n out ≡ 0
+  unfolding drawRefusal drawTests first
+  none-refused = rw (u .good-columns, u .good-rows, u .good-draws, le-ltb (length out) (columns * rows) (u .room))
 
-          pub drawn : {x : ℕ} {map : List ℕ} → Fills columns rows seed n x map →
-              DrawsMap columns rows seed n out (Faults x) (map ++ drop (columns * rows) out)
-          unfolding answer written
-          drawn f =
-              record { answers = rw (none-refused, f .counts); writes = rw (none-refused, f .fills, map-length columns rows seed n) }
+  pub drawn : {seed x : ℕ} {map : List ℕ} → Fills columns rows seed n x map →
+      DrawsMap columns rows seed n out (Faults x) (map ++ drop (columns * rows) out)
+  unfolding answer written
+  drawn {seed} f =
+      record { answers = rw (none-refused, f .counts); writes = rw (none-refused, f .fills, map-length columns rows seed n) }

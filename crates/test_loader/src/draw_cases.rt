@@ -56,6 +56,7 @@ pub fn try_draws() {
     try_draw(5, 3, 7, 1001, 15);
     try_draw(4, 8, 7, 1, 81);
     try_draw(8, 2, 7, 1, 81);
+    try_draw(4, 2, 7, 1, 0);
     try_draw(5, 3, 7, 1, 14);
     try_draw(1, 1, 7, 0, 0);
     try_draw(65, 65, 7, 1001, 0);

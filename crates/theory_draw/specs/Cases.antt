@@ -22,6 +22,7 @@ pub data Case : Type 0 where
   -- columns, rows, a number of draws, how long the output is; the refusal, or 0
   answers : ℕ → ℕ → ℕ → ℕ → ℕ → Case
 
+-- each draw's new state is the next of the list
 unfoldable pub statesAre : ℕ → List ℕ → Bool
 statesAre state [] = true
 statesAre state (x ∷ xs) = eqb (nextState state) x && statesAre (nextState state) xs
@@ -37,8 +38,9 @@ unfoldable pub allHold : List Case → Bool
 allHold [] = true
 allHold (x ∷ xs) = holds x && allHold xs
 
--- The first states of document 02. Three draws and a last seed; places that come again. No draws, with a place and without; the most draws and
--- one more; a draw without a place, by the columns and by the rows; output just long enough, and one byte short; which refusal comes first.
+-- The first state of document 02, and the two after it; how many places there are. Three draws from the first seed and from the last; places that come
+-- again; no draws. What is refused: nothing without draws; the most draws and one more; a draw without a place, by the columns and by the rows;
+-- output one byte short; and which refusal comes first.
 unfoldable pub worked : List Case
 worked =
     states 0 (1013904223 ∷ 1196435762 ∷ 3519870697 ∷ []) ∷

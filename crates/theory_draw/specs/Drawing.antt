@@ -39,6 +39,7 @@ drawTests columns rows n out =
     ltb (length out) (columns * rows) gives 10 ∷
     []
 
+-- the first that holds, or 0
 unfoldable pub drawRefusal : ℕ → ℕ → ℕ → List ℕ → ℕ
 drawRefusal columns rows n out = first (drawTests columns rows n out)
 

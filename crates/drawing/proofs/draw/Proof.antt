@@ -70,10 +70,13 @@ draw-map-requires c κs =
     let at-if3 = c .before .before in
     let at-if2 = at-if3 .before .before in
     let at-if1 = at-if2 .before .before in
-    ready _ _ 0 _ _ (sym (at-if1 .before .is-bad-size .ensures) ∙ at-if1 .if1 .left)
-    (sym (at-if2 .before .is-bad-size2 .ensures) ∙ at-if2 .if2 .left)
-    (sym (at-if3 .before .is-bad-draws .ensures) ∙ at-if3 .if3 .left)
-    (omega arith)
+    ready
+    (record {
+      good-columns = sym (at-if1 .before .is-bad-size .ensures) ∙ at-if1 .if1 .left;
+      good-rows = sym (at-if2 .before .is-bad-size2 .ensures) ∙ at-if2 .if2 .left;
+      good-draws = sym (at-if3 .before .is-bad-draws .ensures) ∙ at-if3 .if3 .left;
+      room = omega arith;
+    })
 
 same-length : tie.Need-same-length
 same-length c = search needs
@@ -84,10 +87,13 @@ returns-5 c =
     let at-if3 = at-draw-map .before .before .before in
     let at-if2 = at-if3 .before .before in
     let at-if1 = at-if2 .before .before in
-    drawn _ _ _ _ _ (sym (at-if1 .before .is-bad-size .ensures) ∙ at-if1 .if1 .left)
-    (sym (at-if2 .before .is-bad-size2 .ensures) ∙ at-if2 .if2 .left)
-    (sym (at-if3 .before .is-bad-draws .ensures) ∙ at-if3 .if3 .left)
-    (omega arith)
+    drawn
+    (record {
+      good-columns = sym (at-if1 .before .is-bad-size .ensures) ∙ at-if1 .if1 .left;
+      good-rows = sym (at-if2 .before .is-bad-size2 .ensures) ∙ at-if2 .if2 .left;
+      good-draws = sym (at-if3 .before .is-bad-draws .ensures) ∙ at-if3 .if3 .left;
+      room = omega arith;
+    })
     (at-draw-map .draw-map .ensures)
 
 pub draw-spec : {M : Type 1} → statement M

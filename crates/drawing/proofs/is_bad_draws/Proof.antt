@@ -10,7 +10,7 @@ returns-2 : tie.Need-returns-2
 returns-2 c = many-draws _ _ _ (c .if2 .taken)
 
 returns-3 : tie.Need-returns-3
-returns-3 c = narrow _ _ _ (c .before .before .if1 .left) (c .before .if2 .left) (c .if3 .taken)
+returns-3 c = narrow _ _ _ (c .before .before .if1 .left) (c .if3 .taken)
 
 returns-4 : tie.Need-returns-4
 returns-4 c = low _ _ _ (c .before .before .if1 .left) (c .before .if2 .left) (c .if3 .left)
