@@ -57,7 +57,7 @@ returns-4 c =
     room-refused _ _ _ _ _ (sym (at-if1 .before .is-bad-size .ensures) ∙ at-if1 .if1 .left)
     (sym (at-if2 .before .is-bad-size2 .ensures) ∙ at-if2 .if2 .left)
     (sym (at-if3 .before .is-bad-draws .ensures) ∙ at-if3 .if3 .left)
-    (c .if4 .taken)
+    (omega arith)
 
 slice-relend-prefix-draw-map : tie.Need-slice-relend-prefix-draw-map
 slice-relend-prefix-draw-map c = search needs
