@@ -1,18 +1,19 @@
 -- Refusal 24, test by test. Assumes nothing.
-use mathlib.Core.Path.{_≡_, sym, _∙_}
-use mathlib.Core.Logic.{_⊎_, inl, inr}
+use mathlib.Core.Path.{_≡_, sym}
+use mathlib.Core.Logic.{inl, inr}
 use mathlib.Core.Bool.{true, false}
 use Prim.Native.Nat.{ℕ, _≤_, _<_}
 use native.Mathlib.Decide.{decLt}
 use native.Mathlib.Omega.{arith}
-use borrow.Author.Tests.{lt-ltb, le-ltb}
+use borrow.Author.Tests.{ltb-true, lt-ltb}
 use lib.Dec.{ltb}
-use Rattle.mesh.proofs.Bools.{value, true-false}
+use Rattle.mesh.proofs.Bools.{true-false, bool-ext}
 use Rattle.theory_draw.specs.Drawing.{badDraws}
+use Rattle.theory_draw.specs.Claims.{Undrawable}
 use Rattle.theory_draw.proofs.Theorems.{refusal-24}
 
 module _ (columns rows draws : ℕ) where
-  refused : (1000 < draws) ⊎ ((0 < draws) × ((columns < 5) ⊎ (rows < 3))) → badDraws columns rows draws ≡ true
+  refused : Undrawable columns rows draws → badDraws columns rows draws ≡ true
   refused = refusal-24 columns rows draws .1
 
   -- where a draw is not refused there are places
@@ -36,16 +37,12 @@ module _ (columns rows draws : ℕ) where
 
     pub low : draws ≤ 1000 → 5 ≤ columns → ltb rows 3 ≡ badDraws columns rows draws
     low few wide =
-        elim (decLt rows 3) [
-          | yes h ↦ lt-ltb rows 3 h ∙ sym (refused (inr (omega (arith, some), inr h)))
-          | no h ↦ le-ltb rows 3 (omega arith) ∙ sym (not-refused (omega arith))
-        ]
+        bool-ext _ _
+        (λ e. refused (inr (omega (arith, some), inr (ltb-true rows 3 e))))
+        (λ e. lt-ltb rows 3 (left (refusal-24 columns rows draws .0 e)))
       where
-        none : 3 ≤ rows → (1000 < draws) ⊎ ((0 < draws) × ((columns < 5) ⊎ (rows < 3))) → ⊥
-        none high (inl h) = omega arith
-        none high (inr (h, inl w)) = omega arith
-        none high (inr (h, inr l)) = omega arith
-
-        not-refused : 3 ≤ rows → badDraws columns rows draws ≡ false
-        not-refused high =
-            elim (value (badDraws columns rows draws)) [ inl e ↦ absurd (none high (refusal-24 columns rows draws .0 e)) | inr e ↦ e ]
+        -- the one part that these leave
+        left : Undrawable columns rows draws → rows < 3
+        left (inl h) = absurd (omega arith)
+        left (inr (h, inl w)) = absurd (omega arith)
+        left (inr (h, inr l)) = l

@@ -1,6 +1,6 @@
 -- A drawn map and the refusals: those of drawing before it, those of every operation after it. Assumes nothing.
 use mathlib.Core.Path.{_≡_, refl, _∙_}
-use mathlib.Core.Bool.{true, false}
+use mathlib.Core.Bool.{false}
 use mathlib.Core.List.{List}
 use Prim.Native.Nat.{ℕ, zero, suc, _*_, _≤_}
 use native.Mathlib.Omega.{arith}
@@ -14,7 +14,7 @@ use Rattle.mesh.specs.Maps.{badSize, mapTests}
 use Rattle.mesh.proofs.Tests.{numbered, None, first-none}
 use Rattle.theory_draw.specs.declared.Drawn.the-variants.{Faults}
 use Rattle.theory_draw.specs.Draws.{drawnPlaces}
-use Rattle.theory_draw.specs.Drawing.{drawnMap, drawnFaults, badDraws, drawTests, drawRefusal, DrawsMap}
+use Rattle.theory_draw.specs.Drawing.{drawnMap, drawnFaults, badDraws, drawRefusal, DrawsMap}
 use Rattle.theory_draw.specs.Claims.{Passes}
 use Rattle.theory_draw.proofs.Draws.{AllAllowed, some-places, drawn-allowed, drawn-length}
 use Rattle.theory_draw.proofs.FaultMaps.{faults-length, faults-pass, distinct-faulty, distinct-few}
@@ -26,14 +26,10 @@ pub record Unrefused (columns rows n : ℕ) (out : List ℕ) : Type 0 where
   pub good-draws : badDraws columns rows n ≡ false
   pub room : columns * rows ≤ length out
 
-draw-numbered : (columns rows n : ℕ) (out : List ℕ) → numbered (drawTests columns rows n out) ≡ true
-unfolding drawTests numbered
-draw-numbered columns rows n out = refl
-
 pub unrefused : (columns rows n : ℕ) (out : List ℕ) → drawRefusal columns rows n out ≡ 0 → Unrefused columns rows n out
-unfolding drawRefusal drawTests None
+unfolding drawRefusal numbered None
 unrefused columns rows n out h =
-    let (no-columns, (no-rows, (no-draws, (no-room, _)))) = first-none _ (draw-numbered columns rows n out) h in
+    let (no-columns, (no-rows, (no-draws, (no-room, _)))) = first-none _ refl h in
     record { good-columns = no-columns; good-rows = no-rows; good-draws = no-draws; room = ltb-false _ _ no-room }
 
 pub passes-on : (columns rows : ℕ) (map : List ℕ) → badSize columns ≡ false → badSize rows ≡ false → Passes columns rows map →

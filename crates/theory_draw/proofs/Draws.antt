@@ -1,6 +1,6 @@
 -- States are below 2^32, a draw picks a number of the places, and every drawn place is an allowed one. Assumes nothing.
 use mathlib.Core.Path.{_≡_, refl}
-use mathlib.Core.Logic.{_⊎_, inl, inr, _↔_}
+use mathlib.Core.Logic.{inl, inr, _↔_}
 use mathlib.Core.Bool.{true, false, _&&_, _||_, or-true}
 use mathlib.Core.List.{List, [], _∷_}
 use Prim.Native.Nat.{ℕ, zero, suc, _*_, _^_, _≤_, _<_}
@@ -14,7 +14,7 @@ use Rattle.mesh.specs.declared.Place.{Place}
 use Rattle.mesh.proofs.Bools.{and-both, and-right, or-cases, or-none}
 use Rattle.theory_draw.specs.Draws.{nextState, stateAfter, placeCount, picked, pickedPlace, drawnPlaces}
 use Rattle.theory_draw.specs.Drawing.{badDraws}
-use Rattle.theory_draw.specs.Claims.{Allowed}
+use Rattle.theory_draw.specs.Claims.{Allowed, Undrawable}
 use Rattle.theory_draw.proofs.Numbers.{no-place, numbered-allowed}
 
 pub next-below : (state : ℕ) → nextState state < 2 ^ 32
@@ -49,11 +49,11 @@ module _ (columns rows n : ℕ) (good : badDraws columns rows n ≡ false) where
       omega (arith, none)
 
 -- refusal 24 applies
-pub draws-refused : (columns rows n : ℕ) → badDraws columns rows n ≡ true ↔ (1000 < n) ⊎ ((0 < n) × ((columns < 5) ⊎ (rows < 3)))
+pub draws-refused : (columns rows n : ℕ) → badDraws columns rows n ≡ true ↔ Undrawable columns rows n
 unfolding badDraws
 draws-refused columns rows n = (told, holds)
   where
-    told : ltb 1000 n || (ltb 0 n && eqb (placeCount columns rows) 0) ≡ true → (1000 < n) ⊎ ((0 < n) × ((columns < 5) ⊎ (rows < 3)))
+    told : ltb 1000 n || (ltb 0 n && eqb (placeCount columns rows) 0) ≡ true → Undrawable columns rows n
     told e =
         elim (or-cases (ltb 1000 n) _ e) [
           | inl many ↦ inl (ltb-true 1000 n many)
@@ -62,7 +62,7 @@ draws-refused columns rows n = (told, holds)
               inr (ltb-true 0 n some, no-place columns rows .0 (eqb-true _ _ zero-places))
         ]
 
-    holds : (1000 < n) ⊎ ((0 < n) × ((columns < 5) ⊎ (rows < 3))) → ltb 1000 n || (ltb 0 n && eqb (placeCount columns rows) 0) ≡ true
+    holds : Undrawable columns rows n → ltb 1000 n || (ltb 0 n && eqb (placeCount columns rows) 0) ≡ true
     holds (inl many) = rw (lt-ltb 1000 n many)
     holds (inr (some, small)) = rw (lt-ltb 0 n some, eq-eqb (placeCount columns rows) 0 (no-place columns rows .1 small)) (or-true (ltb 1000 n))
 

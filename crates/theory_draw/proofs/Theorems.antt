@@ -17,7 +17,7 @@ use Rattle.theory_draw.specs.declared.Drawn.{Drawn}
 use Rattle.theory_draw.specs.declared.Drawn.the-variants.{Faults}
 use Rattle.theory_draw.specs.Draws.{stateAfter, placeCount, placeNumbered, picked, indexOf}
 use Rattle.theory_draw.specs.Drawing.{drawnMap, drawnFaults, drawnAnswer, badDraws, drawRefusal, DrawsMap}
-use Rattle.theory_draw.specs.Claims.{Allowed, OneNumber, Passes}
+use Rattle.theory_draw.specs.Claims.{Allowed, OneNumber, Undrawable, Passes}
 use Rattle.theory_draw.proofs.Numbering as numbering
 use Rattle.theory_draw.proofs.Numbers as numbers
 use Rattle.theory_draw.proofs.Draws.{draws-refused, picked-below, state-below}
@@ -50,7 +50,7 @@ module _ (columns rows : ℕ) where
   no-place = numbers.no-place columns rows
 
   -- so where refusal 24 applies
-  pub refusal-24 : (n : ℕ) → badDraws columns rows n ≡ true ↔ (1000 < n) ⊎ ((0 < n) × ((columns < 5) ⊎ (rows < 3)))
+  pub refusal-24 : (n : ℕ) → badDraws columns rows n ≡ true ↔ Undrawable columns rows n
   refusal-24 = draws-refused columns rows
 
   -- whatever the seed, each draw picks one of the numbers

@@ -10,7 +10,7 @@ use Rattle.mesh.specs.Blocks.{select}
 use Rattle.mesh.specs.Maps.{badSize, allowed}
 use Rattle.mesh.specs.Cases.{place}
 use Rattle.theory_draw.specs.Draws.{nextState, stateAfter, allowedAt, places, placeCount, placeNumbered, picked, pickedPlace, drawnPlaces, indexOf, faultMap, samePlace, isAmong, distinct}
-use Rattle.theory_draw.specs.Drawing.{drawnMap, drawnFaults, badDraws, drawTests, drawRefusal}
+use Rattle.theory_draw.specs.Drawing.{drawnMap, drawnFaults, badDraws, drawRefusal}
 
 pub data Case : Type 0 where
   -- a seed, and the states after each of its first draws
@@ -70,5 +70,5 @@ worked =
 
 pub worked-hold : T (allHold worked)
 unfolding worked allHold holds statesAre first sameList select badSize allowed nextState stateAfter allowedAt places placeNumbered picked pickedPlace
-    drawnPlaces indexOf faultMap samePlace isAmong distinct drawnMap drawnFaults badDraws drawTests drawRefusal
+    drawnPlaces indexOf faultMap samePlace isAmong distinct drawnMap drawnFaults badDraws drawRefusal
 worked-hold = tt

@@ -5,7 +5,7 @@ use mathlib.Core.List.{List, [], _∷_}
 use Prim.Native.Nat.{ℕ, _*_}
 use lib.Dec.{ltb, eqb}
 use lib.ListN.{length}
-use Rattle.mesh.specs.Tests.{Test, _gives_, first}
+use Rattle.mesh.specs.Tests.{_gives_, first}
 use Rattle.mesh.specs.Numbers.{number, Answer, refused, returned, answer, written}
 use Rattle.mesh.specs.Maps.{badSize}
 use Rattle.theory_draw.specs.declared.Drawn.{Drawn}
@@ -31,17 +31,14 @@ unfoldable pub badDraws : ℕ → ℕ → ℕ → Bool
 badDraws columns rows n = ltb 1000 n || (ltb 0 n && eqb (placeCount columns rows) 0)
 
 -- 1, 2; then 24; then 10, output shorter than columns × rows
-unfoldable pub drawTests : ℕ → ℕ → ℕ → List ℕ → List Test
-drawTests columns rows n out =
-    badSize columns gives 1 ∷
+unfoldable pub drawRefusal : ℕ → ℕ → ℕ → List ℕ → ℕ
+drawRefusal columns rows n out =
+    first
+    (badSize columns gives 1 ∷
     badSize rows gives 2 ∷
     badDraws columns rows n gives 24 ∷
     ltb (length out) (columns * rows) gives 10 ∷
-    []
-
--- the first that holds, or 0
-unfoldable pub drawRefusal : ℕ → ℕ → ℕ → List ℕ → ℕ
-drawRefusal columns rows n out = first (drawTests columns rows n out)
+    [])
 
 -- its promise: it returns the number of distinct faults, and writes the map
 pub record DrawsMap (columns rows seed n : ℕ) (out : List ℕ) (r : Drawn) (after : List ℕ) : Type 0 where
