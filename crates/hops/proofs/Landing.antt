@@ -2,14 +2,14 @@
 use mathlib.Core.Path.{_≡_}
 use mathlib.Core.Bool.{true}
 use mathlib.Core.List.{List}
-use Prim.Native.Nat.{ℕ, _+_}
+use Prim.Native.Nat.{ℕ}
 use native.Mathlib.Omega.{arith}
-use borrow.Author.Tests.{ltb-true, leb-true}
+use borrow.Author.Tests.{leb-true}
 use Rattle.mesh.specs.declared.Heading.{Heading}
-use Rattle.mesh.specs.declared.Heading.the-variants.{East as E, North as N, South as S, West as W}
 use Rattle.mesh.specs.declared.Packet.{Packet}
 use Rattle.mesh.specs.Headings.{rowAfter, columnAfter}
 use Rattle.mesh.specs.Hops.{moved, stays, movedPacket}
+use Rattle.mesh.proofs.Hops as hops
 use Rattle.nodes.specs.Sized.{OnMesh}
 use Rattle.hops.specs.Moved.{Lands}
 
@@ -27,11 +27,9 @@ module _ {columns rows : ℕ} {map : List ℕ} {r c : ℕ} (on : OnMesh columns 
 
   -- and the place after it is on the mesh
   pub stays-on : (h : Heading) → stays columns rows h r c ≡ true → OnMesh columns rows map (rowAfter h r) (columnAfter h c)
-  unfolding stays rowAfter columnAfter
-  stays-on E e = record { sized = on .sized; row = on .row; column = ltb-true (c + 1) columns e }
-  stays-on N e = record { sized = on .sized; row = ltb-true (r + 1) rows e; column = on .column }
-  stays-on S e = record { sized = on .sized; row = omega arith; column = on .column }
-  stays-on W e = record { sized = on .sized; row = on .row; column = omega arith }
+  stays-on h s =
+      let (row, column) = hops.stays-on h (on .row) (on .column) s in
+      record { sized = on .sized; row = row; column = column }
 
 -- and so is the packet's
 pub packet-lands : {columns rows : ℕ} {map : List ℕ} (h : Heading) (p : Packet) {q : Packet} →

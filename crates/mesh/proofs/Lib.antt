@@ -3,9 +3,11 @@ pub mod Headings
 pub mod Lists
 pub mod Index
 pub mod Parity
+pub mod Hops
 pub mod Numbers
 pub mod Tests
 pub mod Some
 pub mod Counts
 pub mod Maps
+pub mod NoFaults
 pub mod Requests

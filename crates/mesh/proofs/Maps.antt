@@ -1,6 +1,6 @@
 -- Where a fault may lie, and what it says that none of refusals 1 to 5 applies. Assumes nothing.
 use mathlib.Core.Path.{_≡_, refl}
-use mathlib.Core.Bool.{true, false, _&&_}
+use mathlib.Core.Bool.{true, false}
 use mathlib.Core.List.{List}
 use Prim.Native.Nat.{ℕ, _+_, _*_, _/_, _%_, _≤_, _<_}
 use native.Mathlib.Nat.{zero-add}
@@ -13,6 +13,7 @@ use Rattle.mesh.specs.Nodes.{isBad, bad}
 use Rattle.mesh.specs.Maps.{allowed, badSize, badLength, badByte, misplacedAt, misplaced, mapTests}
 use Rattle.mesh.proofs.Tests.{numbered, None, first-none}
 use Rattle.mesh.proofs.Bools.{and-both, and-right, or-none}
+use Rattle.mesh.proofs.Hops.{on-mesh}
 use Rattle.mesh.proofs.Some.{none-passes}
 use Rattle.mesh.proofs.Index.{index-row, index-column, index-within, few-nodes}
 
@@ -72,7 +73,7 @@ unfolding mapTests numbered
 map-numbered columns rows map = refl
 
 pub accepted : {columns rows : ℕ} {map : List ℕ} → first (mapTests columns rows map) ≡ 0 → Accepted columns rows map
-unfolding bad onMesh None mapTests
+unfolding bad None mapTests
 accepted {columns} {rows} {map} h =
     let (no-columns, (no-rows, (no-length, (no-bytes, (no-placed, _))))) = first-none _ (map-numbered columns rows map) h in
     let size = good-length columns rows map no-length in
@@ -83,9 +84,8 @@ accepted {columns} {rows} {map} h =
       bytes = good-bytes map no-bytes;
       placed =
           λ r c e.
-          let (on, b) = and-both {a = ltb r rows && ltb c columns} e in
-          let p = ltb-true r rows (and-both on .0) in
-          let q = ltb-true c columns (and-both {a = ltb r rows} on .1) in
+          let (on, b) = and-both {a = onMesh (mesh columns rows map) r c} e in
+          let (p, q) = on-mesh (mesh columns rows map) r c on in
           let i : r * columns + c < length map = rw size (index-within columns r c q rows p) in
           rw (index-row columns r c q, index-column columns r c q) at (well-placed columns rows map no-placed (r * columns + c) i b);
     }

@@ -2,25 +2,25 @@
 use mathlib.Core.Path.{_≡_, refl}
 use mathlib.Core.Bool.{true, false}
 use Prim.Native.Nat.{_<_}
-use borrow.Author.Tests.{ltb-true, not-false}
-use lib.Dec.{ltb}
+use borrow.Author.Tests.{not-false}
 use Rattle.mesh.specs.declared.Network.{Network}
 use Rattle.mesh.specs.declared.Place.{Place}
-use Rattle.mesh.specs.Mesh.{Mesh, onMesh}
+use Rattle.mesh.specs.Mesh.{Mesh}
 use Rattle.mesh.specs.Tests.{first}
 use Rattle.mesh.specs.Requests.{offMesh, inBlock, blockNearInRow, unserved, placeTests, tripTests, requestTests}
-use Rattle.mesh.proofs.Bools.{and-both, or-none}
+use Rattle.mesh.proofs.Bools.{or-none}
+use Rattle.mesh.proofs.Hops.{on-mesh}
 use Rattle.mesh.proofs.Tests.{numbered, None, clear-before, first-none}
 
 -- the orders of a place of the mesh
 module _ (w : Mesh) (p : Place) (on : offMesh w p ≡ false) where
   pub on-row : p .row .0 < w .rows
-  unfolding offMesh onMesh
-  on-row = ltb-true (p .row .0) (w .rows) (and-both (not-false _ on) .0)
+  unfolding offMesh
+  on-row = on-mesh w (p .row .0) (p .column .0) (not-false _ on) .0
 
   pub on-column : p .column .0 < w .columns
-  unfolding offMesh onMesh
-  on-column = ltb-true (p .column .0) (w .columns) (and-both {a = ltb (p .row .0) (w .rows)} (not-false _ on) .1)
+  unfolding offMesh
+  on-column = on-mesh w (p .row .0) (p .column .0) (not-false _ on) .1
 
 -- a source and a destination that refusals 6 and 7 let pass
 pub record Placed (w : Mesh) (s d : Place) : Type 0 where

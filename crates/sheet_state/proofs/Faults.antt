@@ -4,7 +4,7 @@ use mathlib.Core.Bool.{Bool, false}
 use mathlib.Core.List.{List}
 use Prim.Native.Nat.{ℕ, _+_, _*_, _≤_, _<_}
 use native.Mathlib.Omega.{arith}
-use borrow.Author.Tests.{lt-ltb, eq-eqb}
+use borrow.Author.Tests.{lt-ltb}
 use lib.Dec.{ltb}
 use lib.ListN.{length, set, take, replicate, length-set, length-replicate}
 use lib.Seq.{take-set-lt, take-at}
@@ -14,7 +14,8 @@ use Rattle.mesh.specs.Maps.{badSize, badLength, badByte}
 use Rattle.mesh.specs.Requests.{offMesh}
 use Rattle.mesh.proofs.Index.{index-within}
 use Rattle.mesh.proofs.Maps.{good-few}
-use Rattle.mesh.proofs.Some.{none-same, none-set}
+use Rattle.mesh.proofs.NoFaults.{none-length, none-bytes}
+use Rattle.mesh.proofs.Some.{none-set}
 use Rattle.buffers.specs.Over.{over}
 use Rattle.buffers.proofs.Over.{over-length, over-all}
 use Rattle.theory_sheet.specs.declared.Phase.the-variants.{Start, Faults}
@@ -25,14 +26,8 @@ use Rattle.sheet_state.specs.Keeping.{stateOf, FaultMap, Ready, Changes}
 use Rattle.sheet_state.proofs.Phases.{faults-sends}
 
 no-faults : (columns rows : ℕ) → badSize columns ≡ false → badSize rows ≡ false → FaultMap columns rows (replicate (columns * rows) 0)
-unfolding badLength badByte
 no-faults columns rows p q =
-    record {
-      good-columns = p;
-      good-rows = q;
-      good-length = rw (eq-eqb _ _ (length-replicate {A = ℕ} (columns * rows) 0));
-      good-bytes = none-same (λ i x. ltb 1 x) 0 (λ i. refl) (columns * rows) 0;
-    }
+    record { good-columns = p; good-rows = q; good-length = none-length columns rows; good-bytes = none-bytes columns rows }
 
 one-fault : {columns rows : ℕ} {map : List ℕ} (i : ℕ) → FaultMap columns rows map → FaultMap columns rows (set map i 1)
 unfolding badLength badByte

@@ -7,14 +7,14 @@ use mathlib.Core.List.{List}
 use Prim.Native.Nat.{ℕ, zero, suc, _≤_, _<_}
 use native.Mathlib.Decide.{ℕ-discrete}
 use native.Mathlib.Omega.{arith}
-use borrow.Author.Tests.{eqb-true, eqb-false, ne-eqb, ltb-true, not-true, not-false}
-use lib.Dec.{eqb, ltb}
+use borrow.Author.Tests.{eqb-true, eqb-false, ne-eqb, not-true}
+use lib.Dec.{eqb}
 use lib.ListN.{length}
 use Rattle.mesh.specs.declared.Heading.the-variants.{West as W}
 use Rattle.mesh.specs.declared.Network.{Network}
 use Rattle.mesh.specs.declared.Network.the-variants.{First, Second}
 use Rattle.mesh.specs.declared.Place.{Place}
-use Rattle.mesh.specs.Mesh.{Mesh, mesh, onMesh, place}
+use Rattle.mesh.specs.Mesh.{Mesh, mesh, place}
 use Rattle.mesh.specs.Parity.{turnsWest}
 use Rattle.mesh.specs.Nodes.{bad}
 use Rattle.mesh.specs.Rounds.{marked}
@@ -22,7 +22,7 @@ use Rattle.mesh.specs.Blocks.{Block, blocks}
 use Rattle.mesh.specs.Rules.{Trip, blocked, tripOn}
 use Rattle.mesh.specs.Hops.{fresh}
 use Rattle.mesh.specs.Walk.{walk, shutIn, meetsEdge, bound}
-use Rattle.mesh.specs.Requests.{offMesh, inBlock, blockNearInRow, unserved}
+use Rattle.mesh.specs.Requests.{inBlock, blockNearInRow, unserved}
 use Rattle.mesh.specs.Routing.{hopsOf}
 use Rattle.mesh.proofs.Bools.{true-false, value, and-both, or-cases, or-none}
 use Rattle.mesh.proofs.Requests.{on-row, on-column, Placed, Request}
@@ -125,21 +125,16 @@ one-network-serves w s d e =
 
 -- on a marked mesh, with the turns of a network
 module _ (n : Network) (w : Mesh) where
-  on-mesh : (r c : ℕ) → onMesh w r c ≡ true → (r < w .rows) × (c < w .columns)
-  unfolding onMesh
-  on-mesh r c e = let f = and-both {a = ltb r (w .rows)} e in (ltb-true _ _ (f .0), ltb-true _ _ (f .1))
-
   module _ (s d : Place) where
     -- a destination that refusals 6, 7 and 8 let pass gives a course
     pub destination-course : ObstaclesOf w → Placed w s d → blockNearInRow w d ≡ false → Course (tripOn n w d) (blocks w)
-    unfolding offMesh inBlock blockNearInRow
+    unfolding inBlock blockNearInRow
     destination-course o p far =
-        let (row, column) = on-mesh (d .row .0) (d .column .0) (not-false _ (p .destination-on)) in
         record {
           obstacles = o;
           changes = turns-change n;
-          row = row;
-          column = column;
+          row = on-row w d (p .destination-on);
+          column = on-column w d (p .destination-on);
           clear = row-is-clear o (d .row .0) (d .column .0) (p .destination-free) far;
         }
 

@@ -1,11 +1,10 @@
 -- Walks by the hop rules on any trip: when two agree, when one fails, and the places on the way of one that arrives. Assumes nothing.
 use mathlib.Core.Path.{_≡_, refl}
-use mathlib.Core.Bool.{Bool, true, false, not, cond}
+use mathlib.Core.Bool.{Bool, true, false, cond}
 use mathlib.Core.List.{List, [], _∷_}
 use mathlib.Core.Logic.{_⊎_, inl, inr}
-use Prim.Native.Nat.{ℕ, zero, suc, _+_, _≤_, _<_}
+use Prim.Native.Nat.{ℕ, zero, suc, _≤_, _<_}
 use native.Mathlib.Omega.{arith}
-use borrow.Author.Tests.{ltb-true, not-true}
 use lib.Dec.{leb}
 use lib.ListN.{length}
 use Rattle.mesh.specs.declared.Heading.{Heading}
@@ -16,6 +15,7 @@ use Rattle.mesh.specs.Rules.{Trip, blocked}
 use Rattle.mesh.specs.Hops.{At, moved, stays, lawful}
 use Rattle.mesh.specs.Walk.{arrived, lawfulRoute, hopAt, walk}
 use Rattle.mesh.proofs.Bools.{true-false, value, and-both, and-right}
+use Rattle.mesh.proofs.Hops.{stays-on, lawful-stays, lawful-enters}
 use Rattle.theory_walk.specs.Course.{FreePlace}
 use Rattle.theory_walk.specs.Claims.{Fails, now, later, reached, OnTheWay}
 use Rattle.theory_walk.proofs.Bools.{cond-by}
@@ -53,21 +53,21 @@ module _ (t : Trip) where
   fails-unlawful (suc m) {p} (now e f) l = true-false (and-both {a = lawful t p (hopAt t p)} (rw e at l) .0) f
   fails-unlawful (suc m) {p} (later e f k) l = fails-unlawful m k (and-both {a = lawful t p (hopAt t p)} (rw e at l) .1)
 
-  stays-free : (p : At) (h : Heading) → stays (t .columns) (t .rows) h (p .row) (p .column) ≡ true → blocked t h 1 (p .row) (p .column) ≡ false →
-      FreePlace t (p .row) (p .column) → FreePlace t (rowAfter h (p .row)) (columnAfter h (p .column))
+  enters-free : (p : At) (h : Heading) → stays (t .columns) (t .rows) h (p .row) (p .column) ≡ true → blocked t h 1 (p .row) (p .column) ≡ false →
+      t .bad (rowAfter h (p .row)) (columnAfter h (p .column)) ≡ false
   unfolding stays blocked ahead rowAfter columnAfter
-  stays-free p E s b o = record { row = o .row; column = ltb-true (p .column + 1) (t .columns) s; free = b }
-  stays-free p N s b o = record { row = ltb-true (p .row + 1) (t .rows) s; column = o .column; free = b }
-  stays-free p S s b o = record { row = omega arith; column = o .column; free = and-right (leb 1 (p .row)) _ s b }
-  stays-free p W s b o = record { row = o .row; column = omega arith; free = and-right (leb 1 (p .column)) _ s b }
+  enters-free p E s b = b
+  enters-free p N s b = b
+  enters-free p S s b = and-right (leb 1 (p .row)) _ s b
+  enters-free p W s b = and-right (leb 1 (p .column)) _ s b
 
   -- a lawful hop leads from a free place to a free place
   lawful-free : (p : At) (h : Heading) → lawful t p h ≡ true → FreePlace t (p .row) (p .column) → FreePlace t (moved h p .row) (moved h p .column)
-  unfolding lawful moved
-  lawful-free p h e o =
-      let f = and-both {a = stays (t .columns) (t .rows) h (p .row) (p .column)} e in
-      let g = and-both {a = not (blocked t h 1 (p .row) (p .column))} (f .1) in
-      stays-free p h (f .0) (not-true _ (g .0)) o
+  unfolding moved
+  lawful-free p h l o =
+      let s = lawful-stays t p h l in
+      let (row, column) = stays-on h (o .row) (o .column) s in
+      record { row = row; column = column; free = enters-free p h s (lawful-enters t p h l) }
 
   at-end : (k : ℕ) (p : At) → FreePlace t (p .row) (p .column) → arrived t p ≡ true → k ≤ 0 → OnTheWay t [] k (reached k t p)
   unfolding reached
