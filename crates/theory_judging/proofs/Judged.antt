@@ -57,6 +57,20 @@ module _ (t : Trip) where
   unfolding judge
   judge-short p i a = rw a
 
+  -- a lawful route is made of lawful hops, and ends at the destination
+  pub route-hops : (p : At) (hs : List Heading) → lawfulRoute t p hs ≡ true → (lawfulHops t p hs ≡ true) × (arrived t (after hs p) ≡ true)
+  unfolding lawfulRoute lawfulHops after
+  route-hops p [] e = (refl, e)
+  route-hops p (h ∷ hs) e =
+      let (l, rest) = and-both {a = lawful t p h} e in
+      let (more, there) = route-hops (moved h p) hs rest in
+      (and-intro l more, there)
+
+  pub hops-route : (p : At) (hs : List Heading) → lawfulHops t p hs ≡ true → arrived t (after hs p) ≡ true → lawfulRoute t p hs ≡ true
+  unfolding lawfulRoute lawfulHops after
+  hops-route p [] e there = there
+  hops-route p (h ∷ hs) e there = let (l, more) = and-both {a = lawful t p h} e in and-intro l (hops-route (moved h p) hs more there)
+
   pub route-passed : (p : At) (i : ℕ) (hs : List Heading) → lawfulRoute t p hs ≡ true → judge t p i (letters hs) ≡ passed (i + length hs)
   unfolding lawfulRoute letters
   route-passed p i [] e = rw add-zero (judge-arrived p i e)

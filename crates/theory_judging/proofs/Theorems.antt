@@ -18,12 +18,12 @@ use Rattle.mesh.specs.Headings.{letter, letters, named}
 use Rattle.mesh.specs.Turns.{hopBreaks, turnsBack}
 use Rattle.mesh.specs.Rules.{Trip}
 use Rattle.mesh.specs.Hops.{At, fresh, lawful}
-use Rattle.mesh.specs.Walk.{lawfulRoute}
+use Rattle.mesh.specs.Walk.{arrived, lawfulRoute}
 use Rattle.mesh.specs.Judging.{letterMistake, passed, failed, judge, judgement}
 use Rattle.mesh.proofs.Headings.{letter-named, named-hop}
-use Rattle.theory_judging.specs.Claims.{LawfulHandIn, BreaksRule, FailedAt, BrokeRuleAt, refusalOf, tripTo}
+use Rattle.theory_judging.specs.Claims.{LawfulHandIn, lawfulHops, after, BreaksRule, FailedAt, BrokeRuleAt, refusalOf, tripTo}
 use Rattle.theory_judging.proofs.Letters.{no-mistake-lawful}
-use Rattle.theory_judging.proofs.Judged.{route-passed, passed-lawful, failed-told, told-failed, clear-judged, refused-judged, passed-clear, failed-judged}
+use Rattle.theory_judging.proofs.Judged.{route-hops, hops-route, route-passed, passed-lawful, failed-told, told-failed, clear-judged, refused-judged, passed-clear, failed-judged}
 use Rattle.theory_judging.proofs.Rules.{rule-is, broken-is-rule, reversal-keeps, failed-is-rule}
 
 -- a heading's letter names it
@@ -57,6 +57,10 @@ module _ (t : Trip) (p : At) where
   -- a letter has no mistake exactly if its hop is lawful
   pub letter-lawful : (h : Heading) → letterMistake t p (Hop h) ≡ 0 ↔ lawful t p h ≡ true
   letter-lawful = no-mistake-lawful t p
+
+  -- a route is lawful exactly if its hops are, and they end at the destination
+  pub route-is-lawful : (hs : List Heading) → lawfulRoute t p hs ≡ true ↔ ((lawfulHops t p hs ≡ true) × (arrived t (after hs p) ≡ true))
+  route-is-lawful hs = (route-hops t p hs, λ (e, there). hops-route t p hs e there)
 
   -- a hand-in is passed exactly if it spells a lawful route; the number is then its length, counted from i
   pub passed-is-lawful : (i n : ℕ) (xs : List ℕ) → judge t p i xs ≡ passed n ↔ (LawfulHandIn t p xs × (n ≡ i + length xs))
