@@ -1,0 +1,14 @@
+pub mod Chains
+pub mod Linked
+pub mod Highest
+pub mod Turns
+pub mod Rank
+pub mod Channels
+pub mod Links
+pub mod Routes
+pub mod Stages
+pub mod Longest
+pub mod Tour
+pub mod HandIns
+pub mod Theorems
+pub mod Example
