@@ -62,7 +62,7 @@ impl Network {
     }
 
     /// Whether NW and SW are forbidden in column c: an odd one on the first network, an even one on the second. In the others EN and ES are.
-    fn forbids_west(self, c: i32) -> bool {
+    pub fn forbids_west(self, c: i32) -> bool {
         (c + self as i32) % 2 == 1
     }
 }

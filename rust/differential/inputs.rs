@@ -38,6 +38,10 @@ impl Case {
         self.mesh.as_ref().err().copied().unwrap_or(0)
     }
 
+    pub fn without_faults(columns: u32, rows: u32) -> Case {
+        Case::new(columns, rows, &vec![0; (columns * rows) as usize])
+    }
+
     pub fn random(rng: &mut Random, columns: usize, rows: usize) -> Case {
         let mut map = vec![0u8; columns * rows];
         if columns >= 5 && rows >= 3 {

@@ -71,8 +71,14 @@ fn check_widened(case: &Case, s: Place, d: Place, letters: &[u8], answer: u32, i
 
 impl Judging {
     pub fn check(&mut self, network: u32, rng: &mut Random, case: &Case, s: Place, mut d: Place, compared: &mut Compared) {
+        let letters = hand_in(network, rng, case, s, &mut d);
+        self.compare(network, rng, case, s, d, &letters, compared);
+    }
+
+    /// The answer on a hand-in, which is that of the plain judge.
+    pub fn compare(&mut self, network: u32, rng: &mut Random, case: &Case, s: Place, d: Place, letters: &[u8], compared: &mut Compared) -> u32 {
         let (columns, rows, map) = (case.columns, case.rows, case.map.given());
-        let hand_in = Input::new(&hand_in(network, rng, case, s, &mut d));
+        let hand_in = Input::new(letters);
         let letters = hand_in.given();
         let length = rng.below(4);
         let mut index = lent::numbers(length, || rng.next() as u64 | 1 << 40);
@@ -91,7 +97,7 @@ impl Judging {
         compared.request("judge", case, &[&case.map, &hand_in], &[&index], [answer, expected], detail);
         if answer == NO_REQUEST {
             self.no_network[usize::from(length > 0)] += 1;
-            return;
+            return answer;
         }
         let counts = &mut self.networks[network as usize - 1];
         counts.answers[answer as usize] += 1;
@@ -101,6 +107,7 @@ impl Judging {
             13..=15 | 17 if length > 0 => counts.count_turns(s, &letters[..=index.room()[0] as usize]),
             _ => {}
         }
+        answer
     }
 
     /// Prints counts, and says whether every answer, with an index too, every null pointer and, on each network, every pair of hops was met.

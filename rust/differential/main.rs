@@ -3,6 +3,7 @@
 //! prints the case and exits with status 1. Each operation has a file of its own.
 //!   c/library && rustc -O rust/differential/main.rs -L target/staticlib -l static=pinduguil -o differential && ./differential
 mod batch;
+mod channels;
 mod drawing;
 mod inputs;
 mod judging;
@@ -35,6 +36,7 @@ struct Tests {
     moving: moving::Moving,
     legs: legs::Legs,
     drawing: drawing::Drawing,
+    channels: channels::Channels,
 }
 
 impl Tests {
@@ -74,7 +76,7 @@ impl Tests {
         println!("{outputs} bytes of outputs and {inputs} of inputs compared");
         let met = [
             self.marking.report(), self.routing.report(), self.picking.report(), self.batch.report(), self.judging.report(),
-            self.moving.report(), self.legs.report(), self.drawing.report(),
+            self.moving.report(), self.legs.report(), self.drawing.report(), self.channels.report(),
         ];
         met.iter().all(|&met| met)
     }
@@ -113,10 +115,12 @@ fn main() {
     tests.legs.check(&mut rng, &mut tests.compared);
     let before = tests.compared.requests;
     tests.drawing.check(&mut rng, &mut tests.compared);
+    let drawn = tests.compared.requests;
+    tests.channels.check(&mut rng, &mut tests.judging, &mut tests.compared);
     let all = tests.compared.requests;
-    let (small, legs, draws) = (meshes - largest - sizes, before - meshes, all - before);
+    let (small, legs, draws, tours) = (meshes - largest - sizes, before - meshes, drawn - before, all - drawn);
     println!("{all} requests, no difference: {sizes} over every size, {largest} on 64 x 64, {small} on small meshes");
-    println!("    and {legs} of legs, {draws} of draws");
+    println!("    and {legs} of legs, {draws} of draws, {tours} of tours");
     if !tests.report() {
         println!("an answer or a null pointer was never met");
         std::process::exit(1);

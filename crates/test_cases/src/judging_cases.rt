@@ -116,6 +116,22 @@ pub fn try_hand_ins() {
     try_sides();
 }
 
+// Four hand-ins round a square, which would wait in a ring (document 02, E9): on each network one of them makes a forbidden turn.
+fn try_square(network: Network, what: &[u8]) {
+    try_on(network, what, 34, 45, 16, 27, b"EN");
+    try_on(network, what, 34, 45, 17, 26, b"NW");
+    try_on(network, what, 34, 45, 27, 16, b"WS");
+    try_on(network, what, 34, 45, 26, 17, b"SE");
+}
+
+pub fn try_ring() {
+    try_square(Network::First, b"a ring, judge round");
+    try_square(
+        Network::Second,
+        b"a ring on the second network, judge round",
+    );
+}
+
 // A hand-in of two letters on map A, on the second network.
 fn try_second(source: u32, destination: u32, before: u8, after: u8) {
     let letters = [before, after];
