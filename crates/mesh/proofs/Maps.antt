@@ -4,7 +4,8 @@ use mathlib.Core.Bool.{true, false}
 use mathlib.Core.List.{List}
 use Prim.Native.Nat.{ℕ, _+_, _*_, _/_, _%_, _≤_, _<_}
 use native.Mathlib.Nat.{zero-add}
-use borrow.Author.Tests.{eqb-true, leb-true, ltb-true, ltb-false, le-leb, lt-ltb, not-false}
+use native.Mathlib.Omega.{arith}
+use borrow.Author.Tests.{eqb-true, ne-eqb, leb-true, ltb-true, ltb-false, le-leb, le-ltb, lt-ltb, not-false}
 use lib.Dec.{eqb, ltb}
 use lib.ListN.{length, getD}
 use Rattle.mesh.specs.Mesh.{mesh, onMesh}
@@ -49,6 +50,10 @@ pub record Accepted (columns rows : ℕ) (map : List ℕ) : Type 0 where
 pub good-size : (n : ℕ) → badSize n ≡ false → n ≤ 64
 unfolding badSize
 good-size n e = ltb-false 64 n (or-none (eqb n 0) (ltb 64 n) e .1)
+
+pub size-good : (n : ℕ) → 1 ≤ n → n ≤ 64 → badSize n ≡ false
+unfolding badSize
+size-good n i j = rw (ne-eqb n 0 (λ e. absurd (omega arith)), le-ltb 64 n j)
 
 -- a mesh that refusals 1 and 2 let pass has few nodes
 pub good-few : (columns rows : ℕ) → badSize columns ≡ false → badSize rows ≡ false → columns * rows ≤ 4096

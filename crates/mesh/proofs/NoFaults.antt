@@ -20,31 +20,31 @@ abbrev pub noFaults : ℕ → ℕ → List ℕ
 noFaults columns rows = replicate (columns * rows) 0
 
 module _ (columns rows : ℕ) where
-  pub none-length : badLength columns rows (noFaults columns rows) ≡ false
+  pub no-faults-length : badLength columns rows (noFaults columns rows) ≡ false
   unfolding badLength
-  none-length = rw (eq-eqb _ _ (length-replicate {A = ℕ} (columns * rows) 0))
+  no-faults-length = rw (eq-eqb _ _ (length-replicate {A = ℕ} (columns * rows) 0))
 
-  pub none-bytes : badByte (noFaults columns rows) ≡ false
+  pub no-faults-bytes : badByte (noFaults columns rows) ≡ false
   unfolding badByte
-  none-bytes = none-same (λ i x. ltb 1 x) 0 (λ i. refl) (columns * rows) 0
+  no-faults-bytes = none-same (λ i x. ltb 1 x) 0 (λ i. refl) (columns * rows) 0
 
   sound-placed : (i : ℕ) → misplacedAt columns rows i 0 ≡ false
   unfolding misplacedAt isBad
   sound-placed i = refl
 
-  pub none-placed : misplaced columns rows (noFaults columns rows) ≡ false
+  pub no-faults-placed : misplaced columns rows (noFaults columns rows) ≡ false
   unfolding misplaced
-  none-placed = none-same (misplacedAt columns rows) 0 sound-placed (columns * rows) 0
+  no-faults-placed = none-same (misplacedAt columns rows) 0 sound-placed (columns * rows) 0
 
   -- refusals 1 to 5 let it pass, if the mesh has a size of document 01
-  pub none-passes : badSize columns ≡ false → badSize rows ≡ false → first (mapTests columns rows (noFaults columns rows)) ≡ 0
+  pub no-faults-pass : badSize columns ≡ false → badSize rows ≡ false → first (mapTests columns rows (noFaults columns rows)) ≡ 0
   unfolding first mapTests
-  none-passes p q = rw (p, q, none-length, none-bytes, none-placed)
+  no-faults-pass p q = rw (p, q, no-faults-length, no-faults-bytes, no-faults-placed)
 
   -- no node is bad
-  pub none-bad : (r c : ℕ) → bad (mesh columns rows (noFaults columns rows)) r c ≡ false
+  pub no-faults-bad : (r c : ℕ) → bad (mesh columns rows (noFaults columns rows)) r c ≡ false
   unfolding bad isBad
-  none-bad r c =
+  no-faults-bad r c =
       elim (value (onMesh (mesh columns rows (noFaults columns rows)) r c)) [
         | inl e ↦
             let (i, j) = on-mesh (mesh columns rows (noFaults columns rows)) r c e in

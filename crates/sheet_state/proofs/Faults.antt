@@ -14,7 +14,7 @@ use Rattle.mesh.specs.Maps.{badSize, badLength, badByte}
 use Rattle.mesh.specs.Requests.{offMesh}
 use Rattle.mesh.proofs.Index.{index-within}
 use Rattle.mesh.proofs.Maps.{good-few}
-use Rattle.mesh.proofs.NoFaults.{none-length, none-bytes}
+use Rattle.mesh.proofs.NoFaults.{no-faults-length, no-faults-bytes}
 use Rattle.mesh.proofs.Some.{none-set}
 use Rattle.buffers.specs.Over.{over}
 use Rattle.buffers.proofs.Over.{over-length, over-all}
@@ -27,7 +27,7 @@ use Rattle.sheet_state.proofs.Phases.{faults-sends}
 
 no-faults : (columns rows : ℕ) → badSize columns ≡ false → badSize rows ≡ false → FaultMap columns rows (replicate (columns * rows) 0)
 no-faults columns rows p q =
-    record { good-columns = p; good-rows = q; good-length = none-length columns rows; good-bytes = none-bytes columns rows }
+    record { good-columns = p; good-rows = q; good-length = no-faults-length columns rows; good-bytes = no-faults-bytes columns rows }
 
 one-fault : {columns rows : ℕ} {map : List ℕ} (i : ℕ) → FaultMap columns rows map → FaultMap columns rows (set map i 1)
 unfolding badLength badByte

@@ -22,7 +22,7 @@ use Rattle.mesh.specs.Requests.{offMesh, inBlock, placeTests}
 use Rattle.mesh.specs.Judging.{hopTests, letterMistake, follow, Verdict, passed, failed, unless, judge, judgeFrom, judgement}
 use Rattle.mesh.proofs.Headings.{letter-named}
 use Rattle.theory_channels.specs.Chains.{Chain, one, more}
-use Rattle.theory_channels.specs.Waiting.{HandIn, Passed, through, channels, route, Waiting, WaitsFor}
+use Rattle.theory_channels.specs.Waiting.{HandIn, verdict, Passed, through, channels, route, Waiting, WaitsFor}
 use Rattle.theory_channels.proofs.Theorems.{passed-wait-in-no-ring}
 
 -- a hand-in of two hops, g and then h
@@ -93,28 +93,41 @@ never-all-passed network columns rows map all-passed = passed-wait-in-no-ring ne
 
 -- Judging fails one of them, for its turn in column 7: NW on the first network, EN on the second.
 abbrev judged : Network → HandIn → Verdict
-judged network h = judgement network 10 8 (faultMap A) (h .source) (h .destination) (h .letters)
+judged network h = verdict network 10 8 (faultMap A) h
 
-pub one-fails-on-first : (judged First EN ≡ passed 2) × (judged First NW ≡ failed 14 1) × (judged First WS ≡ passed 2) × (judged First SE ≡ passed 2)
+abbrev pub verdicts : Network → List Verdict
+verdicts network = judged network EN ∷ judged network NW ∷ judged network WS ∷ judged network SE ∷ []
+
+pub one-fails : (verdicts First ≡ passed 2 ∷ failed 14 1 ∷ passed 2 ∷ passed 2 ∷ []) × (verdicts Second ≡ failed 14 1 ∷ passed 2 ∷ passed 2 ∷ passed 2 ∷ [])
 unfolding A onMesh rowAfter columnAfter opposite letters same named turnsWest first isBad bad ahead upright ruleA ruleB unsafe become advance round
     sameList settle blocked moved stays breaks turnBreaks hopBreaks reverses turnsBack arrived badSize badLength some badByte allowed misplacedAt
     misplaced mapTests offMesh inBlock placeTests hopTests letterMistake follow unless judge judgeFrom judgement atDestination
-one-fails-on-first = (refl, refl, refl, refl)
+one-fails = (refl, refl)
 
-pub one-fails-on-second : (judged Second EN ≡ failed 14 1) × (judged Second NW ≡ passed 2) × (judged Second WS ≡ passed 2) × (judged Second SE ≡ passed 2)
-unfolding A onMesh rowAfter columnAfter opposite letters same named turnsWest first isBad bad ahead upright ruleA ruleB unsafe become advance round
-    sameList settle blocked moved stays breaks turnBreaks hopBreaks reverses turnsBack arrived badSize badLength some badByte allowed misplacedAt
-    misplaced mapTests offMesh inBlock placeTests hopTests letterMistake follow unless judge judgeFrom judgement atDestination
-one-fails-on-second = (refl, refl, refl, refl)
+-- Each of the four is passed on a network: hand-ins that are passed on different ones can wait in a ring, if they share channels.
+abbrev pub PassedOn : Network → HandIn → Type 0
+PassedOn network = Passed network 10 8 (faultMap A)
 
--- The other three are passed on the first network, and do wait, in a line: WS for SE, and SE for EN.
-abbrev pub PassedOnFirst : HandIn → Type 0
-PassedOnFirst = Passed First 10 8 (faultMap A)
+pub EN-passed : PassedOn First EN
+EN-passed = (2, let e = one-fails .0 in cc)
 
-pub passed-wait : Chain (WaitsFor PassedOnFirst)
-    (waiting PassedOnFirst 2 7 W S (2, one-fails-on-first .2))
-    (waiting PassedOnFirst 1 6 E N (2, one-fails-on-first .0))
+pub NW-passed : PassedOn Second NW
+NW-passed = (2, let e = one-fails .1 in cc)
+
+pub WS-passed : PassedOn First WS
+WS-passed = (2, let e = one-fails .0 in cc)
+
+pub SE-passed : PassedOn First SE
+SE-passed = (2, let e = one-fails .0 in cc)
+
+pub each-passed-on-one : (h : HandIn) → Four h → (network : Network) × PassedOn network h
+each-passed-on-one h (List·Memᴰ·head e) = rw e (First, EN-passed)
+each-passed-on-one h (List·Memᴰ·tail (List·Memᴰ·head e)) = rw e (Second, NW-passed)
+each-passed-on-one h (List·Memᴰ·tail (List·Memᴰ·tail (List·Memᴰ·head e))) = rw e (First, WS-passed)
+each-passed-on-one h (List·Memᴰ·tail (List·Memᴰ·tail (List·Memᴰ·tail (List·Memᴰ·head e)))) = rw e (First, SE-passed)
+
+-- The three that the first network passes do wait, in a line: WS for SE, and SE for EN.
+pub passed-wait : Chain (WaitsFor (PassedOn First)) (waiting (PassedOn First) 2 7 W S WS-passed) (waiting (PassedOn First) 1 6 E N EN-passed)
 unfolding waiting rowAfter columnAfter
 passed-wait =
-    more {b = waiting PassedOnFirst 2 6 S E (2, one-fails-on-first .3)} (record { holds = List·Memᴰ·head refl })
-    (one (record { holds = List·Memᴰ·head refl }))
+    more {b = waiting (PassedOn First) 2 6 S E SE-passed} (record { holds = List·Memᴰ·head refl }) (one (record { holds = List·Memᴰ·head refl }))

@@ -5,7 +5,7 @@ use mathlib.Core.List.{List, [], _∷_}
 use Prim.Native.Nat.{ℕ, _-_, _*_, _≤_, _<_}
 use native.Mathlib.Nat.{zero-add}
 use native.Mathlib.Omega.{arith}
-use borrow.Author.Tests.{eq-eqb, le-ltb, ne-eqb}
+use borrow.Author.Tests.{eq-eqb}
 use lib.ListN.{length, length-replicate}
 use Rattle.mesh.specs.declared.Network.{Network}
 use Rattle.mesh.specs.declared.Place.{Place}
@@ -18,43 +18,39 @@ use Rattle.mesh.specs.Rounds.{marked}
 use Rattle.mesh.specs.Rules.{tripOn, blocked, atDestination}
 use Rattle.mesh.specs.Hops.{At, fresh, moved, lawful}
 use Rattle.mesh.specs.Walk.{arrived, lawfulRoute}
-use Rattle.mesh.specs.Maps.{badSize, mapTests}
+use Rattle.mesh.specs.Maps.{mapTests}
 use Rattle.mesh.specs.Requests.{offMesh, inBlock, placeTests}
-use Rattle.mesh.specs.Judging.{passed, judgement}
+use Rattle.mesh.specs.Judging.{passed}
 use Rattle.mesh.proofs.Bools.{and-intro}
 use Rattle.mesh.proofs.Hops.{is-on-mesh}
 use Rattle.mesh.proofs.Lists.{letters-length}
-use Rattle.mesh.proofs.Maps.{accepted, map-numbered}
-use Rattle.mesh.proofs.NoFaults.{noFaults, none-passes, none-bad}
+use Rattle.mesh.proofs.Maps.{size-good, accepted, map-numbered}
+use Rattle.mesh.proofs.NoFaults.{noFaults, no-faults-pass, no-faults-bad}
 use Rattle.mesh.proofs.Tests.{clear-before, clear-next}
 use Rattle.theory_blocks.proofs.Theorems.{one-round, one-round-without-faults}
 use Rattle.theory_judging.specs.Claims.{lawfulHops, after, refusalOf, tripTo}
-use Rattle.theory_judging.proofs.Theorems.{route-is-lawful, passed-is-clear, judgement-is-lawful, judgement-of-route}
-use Rattle.theory_channels.specs.Waiting.{HandIn}
+use Rattle.theory_judging.proofs.Theorems.{route-is-lawful, judgement-of-route}
+use Rattle.theory_channels.specs.Waiting.{HandIn, verdict}
 use Rattle.theory_channels.specs.Claims.{OnMesh, mostLawful, PassedWith}
-use Rattle.theory_channels.proofs.Routes.{after-on, source-on, spells}
+use Rattle.theory_channels.proofs.Routes.{after-on, clear, source-on, spells, hops-lawful}
 use Rattle.theory_channels.proofs.Longest.{walk-short, most-of-all}
 use Rattle.theory_channels.proofs.Tour.{Rest, tour}
 
--- A hand-in that is passed spells a lawful walk.
+-- A passed hand-in spells a lawful walk, so it is no longer.
 module _ (network : Network) (columns rows : ℕ) (map : List ℕ) (h : HandIn) {n : ℕ}
-    (e : judgement network columns rows map (h .source) (h .destination) (h .letters) ≡ passed n) where
-  clear : refusalOf columns rows map (h .source) (h .destination) ≡ 0
-  clear = passed-is-clear network columns rows map (h .source) (h .destination) (h .letters) n e
-
-  pub passed-short : n ≤ mostLawful columns rows
+    (e : verdict network columns rows map h ≡ passed n) where
+  pub passed-short : length (h .letters) ≤ mostLawful columns rows
   passed-short =
-      let t = tripTo network columns rows map (h .destination) in
-      let p = fresh (h .source) in
       let s = spells network columns rows map h e in
-      let count = judgement-is-lawful network columns rows map (h .source) (h .destination) clear (h .letters) n .0 e .1 in
       let size : length (s .hops) ≡ length (h .letters) = sym (letters-length (s .hops)) ∙ rw (s .spelled) in
-      omega (arith, walk-short t p (s .hops) (source-on network columns rows map h e) (route-is-lawful t p (s .hops) .0 (s .route) .0))
+      let t = tripTo network columns rows map (h .destination) in
+      let on = source-on network columns rows map h e in
+      omega (arith, walk-short t (fresh (h .source)) (s .hops) on (hops-lawful network columns rows map h e))
 
-  pub passed-few : n ≤ mostLawful 64 64
+  pub passed-few : length (h .letters) ≤ mostLawful 64 64
   passed-few =
-      let map-clear = clear-before (mapTests columns rows map) (placeTests (marked (mesh columns rows map)) (h .source) (h .destination)) clear in
-      let a = accepted map-clear in
+      let tests = placeTests (marked (mesh columns rows map)) (h .source) (h .destination) in
+      let a = accepted (clear-before (mapTests columns rows map) tests (clear network columns rows map h e)) in
       omega (arith, passed-short, most-of-all columns rows (a .few-columns) (a .few-rows))
 
 -- Which hops are lawful doesn't depend on the destination.
@@ -62,10 +58,6 @@ any-destination : (n : Network) (w : Mesh) (d e : Place) (p : At) (hs : List Hea
 unfolding lawfulHops lawful blocked
 any-destination n w d e p [] = refl
 any-destination n w d e p (h ∷ hs) = rw (any-destination n w d e (moved h p) hs)
-
-good-size : (n : ℕ) → 1 ≤ n → n ≤ 64 → badSize n ≡ false
-unfolding badSize
-good-size n i j = rw (ne-eqb n 0 (λ e. absurd (omega arith)), le-ltb 64 n j)
 
 -- On a mesh without faults the tour is a hand-in that is passed.
 module _ (network : Network) (columns rows : ℕ) (wide : 1 ≤ columns) (few-columns : columns ≤ 64) (tall : 2 ≤ rows) (few-rows : rows ≤ 64) where
@@ -75,7 +67,7 @@ module _ (network : Network) (columns rows : ℕ) (wide : 1 ≤ columns) (few-co
   none-marked : (r c : ℕ) → bad (marked w) r c ≡ false
   none-marked r c =
       let size = length-replicate {A = ℕ} (columns * rows) 0 in
-      rw (one-round w size .0 (one-round-without-faults w size (none-bad columns rows))) (none-bad columns rows r c)
+      rw (one-round w size .0 (one-round-without-faults w size (no-faults-bad columns rows))) (no-faults-bad columns rows r c)
 
   abbrev source : Place
   source = place 0 (columns - 1)
@@ -103,7 +95,7 @@ module _ (network : Network) (columns rows : ℕ) (wide : 1 ≤ columns) (few-co
   unfolding first placeTests inBlock
   tour-clear =
       clear-next (mapTests columns rows (noFaults columns rows)) (placeTests (marked w) source destination) (map-numbered columns rows (noFaults columns rows))
-      (none-passes columns rows (good-size columns wide few-columns) (good-size rows (omega arith) few-rows))
+      (no-faults-pass columns rows (size-good columns wide few-columns) (size-good rows (omega arith) few-rows))
       ∙ rw (
         not-off 0 (columns - 1) (omega arith) (omega arith),
         not-off (end .row) (end .column) (end-there .row) (end-there .column),
@@ -121,8 +113,8 @@ module _ (network : Network) (columns rows : ℕ) (wide : 1 ≤ columns) (few-co
 
   pub longest : PassedWith network columns rows (noFaults columns rows) (mostLawful columns rows)
   longest =
-      let count : length (whole .hops) ≡ mostLawful columns rows = sym (zero-add (length (whole .hops))) ∙ whole .whole in
       record {
         hand-in = record { source = source; destination = destination; letters = letters (whole .hops) };
-        judged = judgement-of-route network columns rows (noFaults columns rows) source destination tour-clear (whole .hops) tour-route ∙ rw count;
+        is-passed = (_, judgement-of-route network columns rows (noFaults columns rows) source destination tour-clear (whole .hops) tour-route);
+        count = letters-length (whole .hops) ∙ sym (zero-add (length (whole .hops))) ∙ whole .whole;
       }

@@ -16,7 +16,7 @@ use Rattle.mesh.proofs.Hops.{on-mesh, is-on-mesh}
 use Rattle.theory_blocks.specs.Blocks.{Neighbour, north, south, east, west}
 use Rattle.theory_channels.specs.Channels.{Channel, endRow, endColumn, isChannel}
 use Rattle.theory_channels.specs.Claims.{Neighbours, Link}
-use Rattle.theory_channels.proofs.Channels.{channel-starts, channel-stays, channel-ends}
+use Rattle.theory_channels.proofs.Channels.{channel-starts, channel-stays, channel-ends, same-channel}
 
 -- a node is no neighbour of itself
 not-itself : {r c x y : ℕ} → Neighbour r c x y → r ≡ x → c ≡ y → ⊥
@@ -64,18 +64,43 @@ module _ (w : Mesh) where
   )
 
   -- the way from a node to its neighbour
-  way : {r c x y : ℕ} → Neighbour r c x y → (h : Heading) × (rowAfter h r ≡ x) × (columnAfter h c ≡ y)
-  unfolding rowAfter columnAfter
-  way north = (N, omega arith, refl)
-  way south = (S, omega arith, refl)
-  way east = (E, refl, omega arith)
-  way west = (W, refl, omega arith)
+  way : {r c x y : ℕ} → Neighbour r c x y → Heading
+  way north = N
+  way south = S
+  way east = E
+  way west = W
+
+  way-leads : {r c x y : ℕ} (n : Neighbour r c x y) → (rowAfter (way n) r ≡ x) × (columnAfter (way n) c ≡ y)
+  unfolding way rowAfter columnAfter
+  way-leads north = (omega arith, refl)
+  way-leads south = (omega arith, refl)
+  way-leads east = (refl, omega arith)
+  way-leads west = (refl, omega arith)
+
+  no-other-way : {r c x y : ℕ} (n : Neighbour r c x y) (h : Heading) → rowAfter h r ≡ x → columnAfter h c ≡ y → h ≡ way n
+  unfolding way rowAfter columnAfter
+  no-other-way north E e f = absurd (omega arith)
+  no-other-way north N e f = refl
+  no-other-way north S e f = absurd (omega arith)
+  no-other-way north W e f = absurd (omega arith)
+  no-other-way south E e f = absurd (omega arith)
+  no-other-way south N e f = absurd (omega arith)
+  no-other-way south S e f = refl
+  no-other-way south W e f = absurd (omega arith)
+  no-other-way east E e f = refl
+  no-other-way east N e f = absurd (omega arith)
+  no-other-way east S e f = absurd (omega arith)
+  no-other-way east W e f = absurd (omega arith)
+  no-other-way west E e f = absurd (omega arith)
+  no-other-way west N e f = absurd (omega arith)
+  no-other-way west S e f = absurd (omega arith)
+  no-other-way west W e f = refl
 
   pub neighbours-link : (r c x y : ℕ) → Neighbours w r c x y → Link w r c x y
   unfolding endRow endColumn
   neighbours-link r c x y n =
-      let (h, p, q) = way (n .near) in
-      let a : Channel = record { row = r; column = c; way = h } in
+      let (p, q) = way-leads (n .near) in
+      let a : Channel = record { row = r; column = c; way = way (n .near) } in
       record {
         channel = a;
         of-mesh = channel-link a .1 (rw (p, q) n);
@@ -83,4 +108,5 @@ module _ (w : Mesh) where
         from-column = refl;
         to-row = p;
         to-column = q;
+        only = λ b i j k l. same-channel i j (no-other-way (n .near) (b .way) (rw (← i) k) (rw (← j) l));
       }

@@ -12,32 +12,34 @@ use Rattle.mesh.specs.declared.Last.the-variants.{None as none, Made as made}
 use Rattle.mesh.specs.Headings.{rowAfter, columnAfter}
 use Rattle.mesh.specs.Turns.{mayTurn}
 use Rattle.mesh.specs.Hops.{At, moved, stays}
+use Rattle.mesh.proofs.Hops.{state}
 use Rattle.theory_channels.specs.Rank.{westbound, eastbound, stage, climb, Later, rank}
 use Rattle.theory_channels.specs.Claims.{Permitted, first, straight, WN, WS, NE, SE, NW, SW, EN, ES}
 use Rattle.theory_channels.proofs.Turns.{permitted-told}
 
--- the stage of hops N and S in column c, by whether they may turn west there, between those of the hops before and after them
-abbrev upright : Bool → ℕ → ℕ → ℕ
-upright b columns c = cond b (westbound columns c) (eastbound columns c)
+-- the stage of hops N and S in column c, by whether they may turn west there
+abbrev line : Bool → ℕ → ℕ → ℕ
+line b columns c = cond b (westbound columns c) (eastbound columns c)
 
-after-west : (b : Bool) (columns c : ℕ) → westbound columns c ≤ upright b columns c
+-- it is no earlier than that of the hop before them, and earlier than that of the hop after them
+after-west : (b : Bool) (columns c : ℕ) → westbound columns c ≤ line b columns c
 after-west true columns c = omega arith
 after-west false columns c = omega arith
 
-before-west : {b : Bool} (columns c : ℕ) → b ≡ true → 1 ≤ c → c < columns → upright b columns c < westbound columns (c - 1)
+before-west : {b : Bool} (columns c : ℕ) → b ≡ true → 1 ≤ c → c < columns → line b columns c < westbound columns (c - 1)
 before-west columns c e i j = rw e (omega arith)
 
-after-east : {b : Bool} (columns c : ℕ) → b ≡ false → eastbound columns c ≤ upright b columns c
+after-east : {b : Bool} (columns c : ℕ) → b ≡ false → eastbound columns c ≤ line b columns c
 after-east columns c e = rw e (omega arith)
 
-before-east : (b : Bool) (columns c : ℕ) → upright b columns c < eastbound columns (c + 1)
+before-east : (b : Bool) (columns c : ℕ) → line b columns c < eastbound columns (c + 1)
 before-east true columns c = omega arith
 before-east false columns c = omega arith
 
 -- a hop to the h from (r, c) on the mesh, after l
 module _ (west : ℕ → Bool) {columns rows r c : ℕ} (i : r < rows) (j : c < columns) where
   abbrev Leads : Last → Heading → Type 0
-  Leads l h = Later west columns rows (record { row = r; column = c; last = l }) (record { row = rowAfter h r; column = columnAfter h c; last = made h })
+  Leads l h = Later west columns rows (state r c l) (state (rowAfter h r) (columnAfter h c) (made h))
 
   -- to a later stage
   on : {l : Last} {h : Heading} → stage west columns l c < stage west columns (made h) (columnAfter h c) → Leads l h

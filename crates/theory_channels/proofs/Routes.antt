@@ -3,20 +3,19 @@ use mathlib.Core.Path.{_≡_, refl, sym, _∙_}
 use mathlib.Core.Bool.{true}
 use mathlib.Core.List.{List, [], _∷_}
 use Prim.Native.Nat.{ℕ}
-use borrow.Author.Tests.{not-true}
 use Rattle.mesh.specs.declared.Network.{Network}
 use Rattle.mesh.specs.Mesh.{mesh}
 use Rattle.mesh.specs.declared.Heading.{Heading}
+use Rattle.mesh.specs.declared.Last.the-variants.{Made as made}
 use Rattle.mesh.specs.Headings.{letters}
 use Rattle.mesh.specs.Parity.{turnsWest}
 use Rattle.mesh.specs.Rounds.{marked}
-use Rattle.mesh.specs.Turns.{hopBreaks, turnsBack, mayTurn}
 use Rattle.mesh.specs.Rules.{Trip}
 use Rattle.mesh.specs.Hops.{At, fresh, moved, lawful}
 use Rattle.mesh.specs.Maps.{mapTests}
 use Rattle.mesh.specs.Requests.{placeTests}
-use Rattle.mesh.specs.Judging.{follow, passed, judgement}
-use Rattle.mesh.proofs.Bools.{true-false, and-both, and-intro}
+use Rattle.mesh.specs.Judging.{follow, passed}
+use Rattle.mesh.proofs.Bools.{and-both, and-intro}
 use Rattle.mesh.proofs.Headings.{letter-named}
 use Rattle.mesh.proofs.Hops.{is-on-mesh, stays-on, lawful-stays, lawful-turns}
 use Rattle.mesh.proofs.Maps.{map-numbered}
@@ -25,9 +24,10 @@ use Rattle.mesh.proofs.Tests.{clear-before, clear-next}
 use Rattle.theory_judging.specs.Claims.{LawfulHandIn, lawfulHops, after, refusalOf, tripTo}
 use Rattle.theory_judging.proofs.Theorems.{route-is-lawful, passed-is-clear, judgement-is-lawful}
 use Rattle.theory_channels.specs.Channels.{Channel, isChannel, endRow, endColumn, MayFollow}
-use Rattle.theory_channels.specs.Waiting.{HandIn, through, channels, route}
+use Rattle.theory_channels.specs.Waiting.{HandIn, verdict, through, channels, route}
 use Rattle.theory_channels.specs.Claims.{OnMesh}
-use Rattle.theory_channels.proofs.Channels.{reverse-reverses}
+use Rattle.theory_channels.proofs.Channels.{permitted-follows}
+use Rattle.theory_channels.proofs.Turns.{permitted-told}
 use Rattle.theory_channels.proofs.Linked.{Linked, empty, single, link}
 
 -- the channel of a hop from p
@@ -56,17 +56,14 @@ module _ (t : Trip) where
     -- a lawful hop after another
     lawful-follows : (p : At) (g h : Heading) → OnMesh t p → lawful t p g ≡ true → lawful t (moved g p) h ≡ true →
         MayFollow (t .west) (mesh (t .columns) (t .rows) map) (channel p g) (channel (moved g p) h)
-    unfolding moved endRow endColumn mayTurn turnsBack hopBreaks
+    unfolding moved endRow endColumn
     lawful-follows p g h o l m =
-        let (v, u) = and-both (lawful-turns t (moved g p) h m) in
-        record {
-          channel-a = lawful-channel p g o l;
-          channel-b = lawful-channel (moved g p) h (lawful-on p g o l) m;
-          row = refl;
-          column = refl;
-          no-reverse = λ e. true-false (reverse-reverses (channel p g) (channel (moved g p) h) e) (not-true _ v);
-          permitted = not-true _ u;
-        }
+        permitted-follows (t .west) (mesh (t .columns) (t .rows) map) (channel p g) (channel (moved g p) h)
+        (lawful-channel p g o l)
+        (lawful-channel (moved g p) h (lawful-on p g o l) m)
+        refl
+        refl
+        (permitted-told (t .west) (moved g p .column) (made g) h (lawful-turns t (moved g p) h m))
 
     pub hops-linked : (p : At) (hs : List Heading) → OnMesh t p → lawfulHops t p hs ≡ true →
         Linked (MayFollow (t .west) (mesh (t .columns) (t .rows) map)) (channels p (letters hs))
@@ -87,8 +84,8 @@ module _ (t : Trip) where
 
 -- Of a hand-in that judging passes on a network.
 module _ (network : Network) (columns rows : ℕ) (map : List ℕ) (h : HandIn) {n : ℕ}
-    (e : judgement network columns rows map (h .source) (h .destination) (h .letters) ≡ passed n) where
-  clear : refusalOf columns rows map (h .source) (h .destination) ≡ 0
+    (e : verdict network columns rows map h ≡ passed n) where
+  pub clear : refusalOf columns rows map (h .source) (h .destination) ≡ 0
   clear = passed-is-clear network columns rows map (h .source) (h .destination) (h .letters) n e
 
   -- it starts on the mesh
@@ -100,13 +97,16 @@ module _ (network : Network) (columns rows : ℕ) (map : List ℕ) (h : HandIn) 
       let on = placed w (h .source) (h .destination) (sym next ∙ clear) .source-on in
       record { row = on-row w (h .source) on; column = on-column w (h .source) on }
 
-  -- and spells a lawful route, with its length
+  -- and spells a lawful route
   pub spells : LawfulHandIn (tripTo network columns rows map (h .destination)) (fresh (h .source)) (h .letters)
   spells = judgement-is-lawful network columns rows map (h .source) (h .destination) clear (h .letters) n .0 e .0
+
+  pub hops-lawful : lawfulHops (tripTo network columns rows map (h .destination)) (fresh (h .source)) (spells .hops) ≡ true
+  hops-lawful =
+      route-is-lawful (tripTo network columns rows map (h .destination)) (fresh (h .source)) (spells .hops) .0 (spells .route) .0
 
   pub passed-linked : Linked (MayFollow (turnsWest network) (mesh columns rows map)) (route h)
   unfolding route
   passed-linked =
-      let t = tripTo network columns rows map (h .destination) in
-      let p = fresh (h .source) in
-      rw (← (spells .spelled)) (hops-linked t map p (spells .hops) source-on (route-is-lawful t p (spells .hops) .0 (spells .route) .0))
+      rw (← (spells .spelled))
+      (hops-linked (tripTo network columns rows map (h .destination)) map (fresh (h .source)) (spells .hops) source-on hops-lawful)

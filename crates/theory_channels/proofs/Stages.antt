@@ -15,11 +15,11 @@ use Rattle.theory_channels.specs.Rank.{westbound, eastbound, stage, clim
 use Rattle.theory_channels.specs.Claims.{mostLawful}
 
 module _ (t : Trip) where
-  -- the hops N and S of the column of stage k belong to that stage
-  pub own : ℕ → Bool
-  own k = (leb (suc k) (t .columns) && t .west (t .columns - suc k)) || (leb (t .columns) (suc k) && not (t .west (suc k - t .columns)))
+  -- stage k has the line of its column: the hops N and S there
+  pub hasLine : ℕ → Bool
+  hasLine k = (leb (suc k) (t .columns) && t .west (t .columns - suc k)) || (leb (t .columns) (suc k) && not (t .west (suc k - t .columns)))
 
-  -- of each column they belong to one of its two stages; column 0 has but one
+  -- a column's line is at one of its two stages; column 0 has but one
   module _ (c : ℕ) (i : c < t .columns) where
     west-column : t .columns - suc (westbound (t .columns) c) ≡ c
     west-column = omega arith
@@ -27,17 +27,17 @@ module _ (t : Trip) where
     east-column : suc (eastbound (t .columns) c) - t .columns ≡ c
     east-column = omega arith
 
-    pub own-west : t .west c ≡ true → own (westbound (t .columns) c) ≡ true
-    unfolding own
-    own-west e = rw (le-leb (suc (westbound (t .columns) c)) (t .columns) (omega arith), west-column, e)
+    pub line-west : t .west c ≡ true → hasLine (westbound (t .columns) c) ≡ true
+    unfolding hasLine
+    line-west e = rw (le-leb (suc (westbound (t .columns) c)) (t .columns) (omega arith), west-column, e)
 
-    pub own-east : t .west c ≡ false → own (eastbound (t .columns) c) ≡ true
-    unfolding own
-    own-east e = rw (le-leb (t .columns) (suc (eastbound (t .columns) c)) (omega arith), east-column, e, or-true)
+    pub line-east : t .west c ≡ false → hasLine (eastbound (t .columns) c) ≡ true
+    unfolding hasLine
+    line-east e = rw (le-leb (t .columns) (suc (eastbound (t .columns) c)) (omega arith), east-column, e, or-true)
 
-    pub not-west : 1 ≤ c → t .west c ≡ false → own (westbound (t .columns) c) ≡ false
-    unfolding own
-    not-west o e =
+    pub no-line-west : 1 ≤ c → t .west c ≡ false → hasLine (westbound (t .columns) c) ≡ false
+    unfolding hasLine
+    no-line-west o e =
         rw (
           le-leb (suc (westbound (t .columns) c)) (t .columns) (omega arith),
           west-column,
@@ -45,9 +45,9 @@ module _ (t : Trip) where
           lt-leb (t .columns) (suc (westbound (t .columns) c)) (omega arith),
         )
 
-    pub not-east : 1 ≤ c → t .west c ≡ true → own (eastbound (t .columns) c) ≡ false
-    unfolding own
-    not-east o e =
+    pub no-line-east : 1 ≤ c → t .west c ≡ true → hasLine (eastbound (t .columns) c) ≡ false
+    unfolding hasLine
+    no-line-east o e =
         rw (
           lt-leb (suc (eastbound (t .columns) c)) (t .columns) (omega arith),
           le-leb (t .columns) (suc (eastbound (t .columns) c)) (omega arith),
@@ -55,16 +55,16 @@ module _ (t : Trip) where
           e,
         )
 
-  pub own-middle : 0 < t .columns → own (westbound (t .columns) 0) ≡ true
-  own-middle i =
+  pub line-middle : 0 < t .columns → hasLine (westbound (t .columns) 0) ≡ true
+  line-middle i =
       elim (value (t .west 0)) [
-        | inl e ↦ own-west 0 i e
-        | inr e ↦ let k : eastbound (t .columns) 0 ≡ westbound (t .columns) 0 = omega arith in rw (← k) (own-east 0 i e)
+        | inl e ↦ line-west 0 i e
+        | inr e ↦ let k : eastbound (t .columns) 0 ≡ westbound (t .columns) 0 = omega arith in rw (← k) (line-east 0 i e)
       ]
 
-  -- so many of them can be made at stage k,
+  -- so many hops N or S can be made at stage k,
   room : ℕ → ℕ
-  room k = cond (own k) (t .rows - 1) 0
+  room k = cond (hasLine k) (t .rows - 1) 0
 
   -- and so many hops before it
   pub start : ℕ → ℕ
@@ -75,30 +75,30 @@ module _ (t : Trip) where
   unfolding start
   start-none = refl
 
-  pub start-own : (k : ℕ) → own k ≡ true → start (suc k) ≡ start k + suc (t .rows - 1)
+  pub start-line : (k : ℕ) → hasLine k ≡ true → start (suc k) ≡ start k + suc (t .rows - 1)
   unfolding start room
-  start-own k e = rw e
+  start-line k e = rw e
 
-  pub start-other : (k : ℕ) → own k ≡ false → start (suc k) ≡ start k + 1
+  pub start-no-line : (k : ℕ) → hasLine k ≡ false → start (suc k) ≡ start k + 1
   unfolding start room
-  start-other k e = rw e
+  start-no-line k e = rw e
 
   pub start-rises : (k : ℕ) → start k ≤ start (suc k)
   unfolding start
   start-rises k = omega arith
 
-  -- a packet has climbed no further than its stage has room
-  own-upright : (c : ℕ) → c < t .columns → own (stage (t .west) (t .columns) (made N) c) ≡ true
+  line-here : (c : ℕ) → c < t .columns → hasLine (stage (t .west) (t .columns) (made N) c) ≡ true
   unfolding stage
-  own-upright c i = elim (value (t .west c)) [ inl e ↦ rw e (own-west c i e) | inr e ↦ rw e (own-east c i e) ]
+  line-here c i = elim (value (t .west c)) [ inl e ↦ rw e (line-west c i e) | inr e ↦ rw e (line-east c i e) ]
 
+  -- a packet is no further along its column than its stage has room
   pub climb-fits : (l : Last) {r c : ℕ} → r < t .rows → c < t .columns →
       start (stage (t .west) (t .columns) l c) + climb (t .rows) l r < start (suc (stage (t .west) (t .columns) l c))
   unfolding start climb stage room
   climb-fits none i j = omega arith
   climb-fits (made E) i j = omega arith
-  climb-fits (made N) {r} {c} i j = rw (own-upright c j) (omega arith)
-  climb-fits (made S) {r} {c} i j = rw (own-upright c j) (omega arith)
+  climb-fits (made N) {r} {c} i j = rw (line-here c j) (omega arith)
+  climb-fits (made S) {r} {c} i j = rw (line-here c j) (omega arith)
   climb-fits (made W) i j = omega arith
 
   -- there are 2 columns - 1 stages
@@ -115,15 +115,15 @@ module _ (t : Trip) where
   unfolding room
   once c o i =
       elim (value (t .west c)) [
-        | inl e ↦ rw (own-west c i e, not-east c i o e) (omega arith)
-        | inr e ↦ rw (not-west c i o e, own-east c i e) (omega arith)
+        | inl e ↦ rw (line-west c i e, no-line-east c i o e) (omega arith)
+        | inr e ↦ rw (no-line-west c i o e, line-east c i e) (omega arith)
       ]
 
   there-and-back : (n : ℕ) → n < t .columns → start (t .columns + n) ≡ start (westbound (t .columns) n) + (2 * n + 1) + suc n * (t .rows - 1)
   unfolding start room
   there-and-back zero i =
       let last : t .columns + 0 ≡ suc (westbound (t .columns) 0) = omega arith in
-      rw (last, own-middle i) (omega arith)
+      rw (last, line-middle i) (omega arith)
   there-and-back (suc n) i =
       let last : t .columns + suc n ≡ suc (t .columns + n) = omega arith in
       let east : t .columns + n ≡ eastbound (t .columns) (suc n) = omega arith in

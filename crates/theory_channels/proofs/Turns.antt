@@ -10,6 +10,7 @@ use Rattle.mesh.specs.declared.Last.the-variants.{None as none, Made as made}
 use Rattle.mesh.specs.Headings.{opposite, same}
 use Rattle.mesh.specs.Turns.{breaks, turnBreaks, hopBreaks, reverses, turnsBack, mayTurn}
 use Rattle.mesh.proofs.Bools.{true-false, value}
+use Rattle.mesh.proofs.Hops.{straight-on}
 use Rattle.theory_channels.specs.Claims.{Permitted, first, straight, WN, WS, NE, SE, NW, SW, EN, ES}
 
 module _ (west : ℕ → Bool) (c : ℕ) where
@@ -33,17 +34,10 @@ module _ (west : ℕ → Bool) (c : ℕ) where
   permitted-told (made W) S t = WS
   permitted-told (made W) W t = straight
 
-  straight-on : (h : Heading) → mayTurn west c (made h) h ≡ true
-  unfolding mayTurn turnsBack hopBreaks reverses turnBreaks breaks same opposite
-  straight-on E = refl
-  straight-on N = refl
-  straight-on S = refl
-  straight-on W = refl
-
   pub permitted-true : {l : Last} {h : Heading} → Permitted west c l h → mayTurn west c l h ≡ true
   unfolding mayTurn turnsBack hopBreaks reverses turnBreaks breaks same opposite
   permitted-true first = refl
-  permitted-true {h = h} straight = straight-on h
+  permitted-true {h = h} straight = straight-on west c h
   permitted-true WN = refl
   permitted-true WS = refl
   permitted-true NE = refl

@@ -10,6 +10,7 @@ use Prim.Native.Nat.{ℕ, suc, _+_, _-_, _*_, _≤_, _<_}
 use Rattle.mesh.specs.declared.Heading.the-variants.{East as E, North as N, South as S, West as W}
 use Rattle.mesh.specs.declared.Last.{Last}
 use Rattle.mesh.specs.declared.Last.the-variants.{None as none, Made as made}
+use Rattle.mesh.specs.Mesh.{Mesh}
 use Rattle.mesh.specs.Hops.{At}
 use Rattle.theory_channels.specs.Channels.{Channel, endRow, endColumn}
 
@@ -28,7 +29,7 @@ stage west columns (made N) c = cond (west c) (westbound columns c) (eastbound c
 stage west columns (made S) c = cond (west c) (westbound columns c) (eastbound columns c)
 stage west columns (made W) c = westbound columns c
 
--- how far along its column a packet in row r has come, going N or S
+-- how far along its column a packet in row r is, going N or S
 unfoldable pub climb : ℕ → Last → ℕ → ℕ
 climb rows none r = 0
 climb rows (made E) r = 0
@@ -36,6 +37,7 @@ climb rows (made N) r = r
 climb rows (made S) r = rows - suc r
 climb rows (made W) r = 0
 
+-- both of a packet at p
 abbrev pub stageOf : (ℕ → Bool) → ℕ → At → ℕ
 stageOf west columns p = stage west columns (p .last) (p .column)
 
@@ -51,6 +53,9 @@ pub record Later (west : ℕ → Bool) (columns rows : ℕ) (p q : At) : Type 0 
 unfoldable pub rank : (ℕ → Bool) → ℕ → ℕ → At → ℕ
 rank west columns rows p = stageOf west columns p * rows + climbOf rows p
 
--- a packet that has come through a channel
+-- a packet that has come through a channel, and its rank
 abbrev pub came : Channel → At
 came a = record { row = endRow a; column = endColumn a; last = made (a .way) }
+
+abbrev pub channelRank : (ℕ → Bool) → Mesh → Channel → ℕ
+channelRank west w a = rank west (w .columns) (w .rows) (came a)

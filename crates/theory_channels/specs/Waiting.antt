@@ -8,7 +8,7 @@ use Rattle.mesh.specs.declared.Network.{Network}
 use Rattle.mesh.specs.declared.Place.{Place}
 use Rattle.mesh.specs.Headings.{named}
 use Rattle.mesh.specs.Hops.{At, fresh}
-use Rattle.mesh.specs.Judging.{follow, passed, judgement}
+use Rattle.mesh.specs.Judging.{follow, Verdict, passed, judgement}
 use Rattle.theory_channels.specs.Channels.{Channel}
 
 -- a hand-in: source, destination and the bytes of its letters
@@ -17,10 +17,13 @@ pub record HandIn : Type 0 where
   pub destination : Place
   pub letters : List ℕ
 
+-- what judging says of it
+abbrev pub verdict : Network → ℕ → ℕ → List ℕ → HandIn → Verdict
+verdict network columns rows map h = judgement network columns rows map (h .source) (h .destination) (h .letters)
+
 -- judging passes it
 abbrev pub Passed : Network → ℕ → ℕ → List ℕ → HandIn → Type 0
-Passed network columns rows map h =
-    (n : ℕ) × (judgement network columns rows map (h .source) (h .destination) (h .letters) ≡ passed n)
+Passed network columns rows map h = (n : ℕ) × (verdict network columns rows map h ≡ passed n)
 
 -- the channel of a letter's hop from p, before further ones; a byte that is no letter has none
 unfoldable pub through : Letter → At → List Channel → List Channel

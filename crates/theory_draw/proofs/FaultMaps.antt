@@ -15,7 +15,7 @@ use Rattle.mesh.specs.Nodes.{isBad, howMany}
 use Rattle.mesh.specs.Maps.{badLength, badByte, misplacedAt, misplaced}
 use Rattle.mesh.proofs.Bools.{value, true-false, and-both, and-intro}
 use Rattle.mesh.proofs.Index.{index-row, index-column, index-within}
-use Rattle.mesh.proofs.NoFaults.{none-bytes, none-placed}
+use Rattle.mesh.proofs.NoFaults.{no-faults-bytes, no-faults-placed}
 use Rattle.mesh.proofs.Some.{none-set}
 use Rattle.mesh.proofs.Counts.{howMany-other, howMany-set}
 use Rattle.mesh.proofs.Maps.{allowed-told}
@@ -56,12 +56,12 @@ module _ (columns rows : ℕ) where
 
   small : (ps : List Place) → badByte (faultMap columns rows ps) ≡ false
   unfolding faultMap badByte
-  small [] = none-bytes columns rows
+  small [] = no-faults-bytes columns rows
   small (p ∷ ps) = none-set (λ i x. ltb 1 x) 0 (faultMap columns rows ps) (indexOf columns p) 1 refl (small ps)
 
   placed : (ps : List Place) → AllAllowed columns rows ps → misplaced columns rows (faultMap columns rows ps) ≡ false
   unfolding faultMap misplaced
-  placed [] none = none-placed columns rows
+  placed [] none = no-faults-placed columns rows
   placed (p ∷ ps) (more a bs) =
       none-set (misplacedAt columns rows) 0 (faultMap columns rows ps) (indexOf columns p) 1 (rw (zero-add (indexOf columns p)) (well-placed p a))
       (placed ps bs)

@@ -13,18 +13,16 @@ use Rattle.mesh.specs.Headings.{rowAfter, columnAfter, opposite}
 use Rattle.mesh.specs.Nodes.{ahead}
 use Rattle.mesh.specs.Blocks.{Block}
 use Rattle.mesh.specs.Rules.{Trip, blocked}
-use Rattle.mesh.specs.Hops.{At, stays, lawful}
+use Rattle.mesh.specs.Hops.{stays, lawful}
+use Rattle.mesh.proofs.Hops.{state}
 use Rattle.theory_walk.specs.Course.{Course}
 use Rattle.theory_walk.proofs.Coordinates.{Off, north, south, To, east, west}
 use Rattle.theory_walk.proofs.Crossing.{reach, Crosses}
 use Rattle.theory_walk.proofs.Turns.{Permits}
 
-abbrev pub at : ℕ → ℕ → Last → At
-at r c l = record { row = r; column = c; last = l }
-
 -- hop h from (r, c) after l is lawful and leads to where M holds
 pub record Goes (t : Trip) (M : ℕ → ℕ → Last → Type 0) (r c : ℕ) (l : Last) (h : Heading) : Type 0 where
-  pub lawfully : lawful t (at r c l) h ≡ true
+  pub lawfully : lawful t (state r c l) h ≡ true
   pub then : M (rowAfter h r) (columnAfter h c) (made h)
 
 module _ {t : Trip} {M : ℕ → ℕ → Last → Type 0} {l : Last} {r c : ℕ} where

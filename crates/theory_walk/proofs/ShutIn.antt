@@ -17,6 +17,7 @@ use Rattle.mesh.specs.Rules.{Trip, blocked, own, again, atDestination}
 use Rattle.mesh.specs.Hops.{fresh, moved, stays, lawful}
 use Rattle.mesh.specs.Walk.{arrived, hopAt}
 use Rattle.mesh.specs.Mesh.{place}
+use Rattle.mesh.proofs.Hops.{state}
 use Rattle.mesh.proofs.Bools.{true-false, and-both}
 use Rattle.theory_walk.specs.Course.{Course}
 use Rattle.theory_walk.specs.Claims.{Fails}
@@ -24,20 +25,19 @@ use Rattle.theory_walk.proofs.Coordinates.{up, to-west, Sight, left, Of
 use Rattle.theory_walk.proofs.Crossing.{reach, near, Crosses, far-near, off-out, inside-if-bad}
 use Rattle.theory_walk.proofs.Rules.{first, by-inRow, by-leaving, by-across}
 use Rattle.theory_walk.proofs.Turns.{no-turn-west}
-use Rattle.theory_walk.proofs.Lawful.{at}
 use Rattle.theory_walk.proofs.InRow.{met-by}
 use Rattle.theory_walk.proofs.Walks.{FailsBy, fails-by}
 
 module _ (t : Trip) (r c : ℕ) where
-  other-column : (l : Last) → (c ≡ t .C → ⊥) → arrived t (at r c l) ≡ false
+  other-column : (l : Last) → (c ≡ t .C → ⊥) → arrived t (state r c l) ≡ false
   unfolding arrived atDestination
   other-column l h = rw (ne-eqb c (t .C) h, and-false)
 
-  other-row : (l : Last) → (r ≡ t .R → ⊥) → arrived t (at r c l) ≡ false
+  other-row : (l : Last) → (r ≡ t .R → ⊥) → arrived t (state r c l) ≡ false
   unfolding arrived atDestination
   other-row l h = rw (ne-eqb r (t .R) h)
 
-  turn-barred : notOwn t W c ≡ 1 → lawful t (at r c (made N)) W ≡ false
+  turn-barred : notOwn t W c ≡ 1 → lawful t (state r c (made N)) W ≡ false
   unfolding lawful
   turn-barred e = rw (no-turn-west t c e, and-false, and-false)
 
@@ -63,18 +63,18 @@ module _ (t : Trip) (r c : ℕ) where
 module _ {t : Trip} {bs : List Block} (course : Course t bs) where
   -- rule 3 sends it north beside the block, or west in a column where NW is forbidden
   north-by : {b : Block} {k r c x : ℕ} → Crosses t bs W b → Off t r (suc k) N → k ≤ reach t N b → To t c x W → x ≡ near t W b + 1 → notOwn t W c ≡ 1 →
-      (suc k ≤ reach t N b → Fails t (at (r + 1) c (made N))) → Fails t (at r c (made N))
+      (suc k ≤ reach t N b → Fails t (state (r + 1) c (made N))) → Fails t (state r c (made N))
   unfolding hopAt moved rowAfter columnAfter
   north-by {b} {k} {r} {c} {x} q o h to f a next =
       let order = far-near to-west q in
       fails-by t (other-column t r c (made N) (to-other to (omega arith)))
-      (by-leaving (FailsBy t (at r c (made N))) o to (omega arith)
+      (by-leaving (FailsBy t (state r c (made N))) o to (omega arith)
       (λ p. inr (next (inside-if-bad course q o (sight-to to (p .sight) (omega arith)) (omega arith) (p .bad) .rows)))
       (λ p. inl (turn-barred t r c a)))
 
   north-fails : {b : Block} {k r c x : ℕ} (m : ℕ) → Crosses t bs W b → Off t r (suc k) N → k + m ≡ reach t N b → To t c x W →
       x ≡ near t W b + 1 → notOwn t W c ≡ 1 →
-      Fails t (at r c (made N))
+      Fails t (state r c (made N))
   unfolding rowAfter
   north-fails zero q o e to f a = north-by q o (omega arith) to f a (λ h. absurd (omega arith))
   north-fails (suc m) q o e to f a = north-by q o (omega arith) to f a (λ h. north-fails m q (off-out q o h) (omega arith) to f a)

@@ -124,44 +124,43 @@ one-network-serves w s d e =
     ]
 
 -- on a marked mesh, with the turns of a network
-module _ (n : Network) (w : Mesh) where
-  module _ (s d : Place) where
-    -- a destination that refusals 6, 7 and 8 let pass gives a course
-    pub destination-course : ObstaclesOf w → Placed w s d → blockNearInRow w d ≡ false → Course (tripOn n w d) (blocks w)
-    unfolding inBlock blockNearInRow
-    destination-course o p far =
-        record {
-          obstacles = o;
-          changes = turns-change n;
-          row = on-row w d (p .destination-on);
-          column = on-column w d (p .destination-on);
-          clear = row-is-clear o (d .row .0) (d .column .0) (p .destination-free) far;
-        }
+module _ (n : Network) (w : Mesh) (s d : Place) where
+  -- a destination that refusals 6, 7 and 8 let pass gives a course
+  pub destination-course : ObstaclesOf w → Placed w s d → blockNearInRow w d ≡ false → Course (tripOn n w d) (blocks w)
+  unfolding inBlock blockNearInRow
+  destination-course o p far =
+      record {
+        obstacles = o;
+        changes = turns-change n;
+        row = on-row w d (p .destination-on);
+        column = on-column w d (p .destination-on);
+        clear = row-is-clear o (d .row .0) (d .column .0) (p .destination-free) far;
+      }
 
-    -- a source that refusals 6, 7 and 9 let pass
-    pub source-served : Request n w s d → Served (tripOn n w d) (s .row .0) (s .column .0)
-    unfolding inBlock unserved
-    source-served q =
-        let p = q .placed in
-        let (free-west, off) = or-none (shutIn (tripOn n w d) (s .row .0) (s .column .0)) _ (q .served) in
-        record {
-          place = record { row = on-row w s (p .source-on); column = on-column w s (p .source-on); free = p .source-free };
-          not-shut = free-west;
-          off-edge = off;
-        }
+  -- a source that refusals 6, 7 and 9 let pass
+  pub source-served : Request n w s d → Served (tripOn n w d) (s .row .0) (s .column .0)
+  unfolding inBlock unserved
+  source-served q =
+      let p = q .placed in
+      let (free-west, off) = or-none (shutIn (tripOn n w d) (s .row .0) (s .column .0)) _ (q .served) in
+      record {
+        place = record { row = on-row w s (p .source-on); column = on-column w s (p .source-on); free = p .source-free };
+        not-shut = free-west;
+        off-edge = off;
+      }
 
-    -- the hops of a request that refusals 6 to 9 let pass are a lawful route within the bound
-    pub request-arrives : ObstaclesOf w → Request n w s d →
-        Arrives (tripOn n w d) (blocks w) (s .row .0) (s .column .0) (hopsOf n w s d)
-    unfolding hopsOf
-    request-arrives o q =
-        walk-arrives (destination-course o (q .placed) (q .row-clear)) _ _ (source-served q) _ (omega arith)
+  -- the hops of a request that refusals 6 to 9 let pass are a lawful route within the bound
+  pub request-arrives : ObstaclesOf w → Request n w s d →
+      Arrives (tripOn n w d) (blocks w) (s .row .0) (s .column .0) (hopsOf n w s d)
+  unfolding hopsOf
+  request-arrives o q =
+      walk-arrives (destination-course o (q .placed) (q .row-clear)) _ _ (source-served q) _ (omega arith)
 
-    -- their bound on a mesh of at most 64 columns and rows
-    pub request-bound : w .columns ≤ 64 → w .rows ≤ 64 → ObstaclesOf w → Request n w s d →
-        bound (tripOn n w d) (blocks w) (s .row .0) (s .column .0) ≤ mostHops
-    request-bound few-columns few-rows o q =
-        bound-few (destination-course o (q .placed) (q .row-clear)) (source-served q .place) few-columns few-rows
+  -- their bound on a mesh of at most 64 columns and rows
+  pub request-bound : w .columns ≤ 64 → w .rows ≤ 64 → ObstaclesOf w → Request n w s d →
+      bound (tripOn n w d) (blocks w) (s .row .0) (s .column .0) ≤ mostHops
+  request-bound few-columns few-rows o q =
+      bound-few (destination-course o (q .placed) (q .row-clear)) (source-served q .place) few-columns few-rows
 
 -- no route has more hops: on either network, of every map that refusals 1 to 5 let pass, and every request that refusals 6 to 9 let pass
 pub routes-are-short : (n : Network) {columns rows : ℕ} {map : List ℕ} → Accepted columns rows map → (s d : Place) →

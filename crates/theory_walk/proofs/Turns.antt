@@ -11,6 +11,7 @@ use Rattle.mesh.specs.Headings.{opposite, same}
 use Rattle.mesh.specs.Turns.{breaks, turnBreaks, hopBreaks, reverses, turnsBack, mayTurn}
 use Rattle.mesh.specs.Rules.{Trip, own, again}
 use Rattle.mesh.proofs.Bools.{true-false}
+use Rattle.mesh.proofs.Hops.{straight-on}
 use Rattle.theory_walk.proofs.Bools.{bit-zero, bit-one}
 use Rattle.theory_walk.proofs.Coordinates.{Upright, up, down, Level, to-east, to-west, notOwn}
 use Rattle.theory_walk.proofs.Rules.{Across, first, went-east, went-west}
@@ -42,11 +43,7 @@ module _ (t : Trip) (c : ℕ) where
   first-hop h = refl
 
   pub straight : (h : Heading) → Permits t c (made h) h
-  unfolding mayTurn turnsBack hopBreaks reverses turnBreaks breaks same opposite
-  straight E = refl
-  straight N = refl
-  straight S = refl
-  straight W = refl
+  straight = straight-on (t .west) c
 
   pub across-on : {l : Last} {s : Heading} → Across l s → Permits t c l s
   across-on first = first-hop W
