@@ -64,7 +64,7 @@ impl Walks<'_> {
         if let Some(hops) = self.longest[state] {
             return hops;
         }
-        assert!(!self.entered[state], "a ring of channels through {at:?} {last}");
+        assert!(!self.entered[state], "a ring of channels through {at:?}, last hop {}", last as char);
         self.entered[state] = true;
         let mut hops = 0;
         for h in *b"ENSW" {
@@ -91,7 +91,7 @@ impl Channels {
             let beyond = if is_on { (r as u32, c as u32) } else { destination };
             letters.push(h);
             let answer = judging.compare(number, rng, case, source, beyond, &letters, compared);
-            assert!((12..=17).contains(&answer), "{answer} for {h} after the tour of {columns} by {rows}");
+            assert!((12..=17).contains(&answer), "{answer} for {} after the tour of {columns} by {rows}", h as char);
             letters.pop();
         }
         self.tours += 1;

@@ -1,4 +1,4 @@
--- Places of the mesh, and what a lawful hop is made of. Assumes nothing.
+-- Packets and places of the mesh, and what a lawful hop is made of. Assumes nothing.
 use mathlib.Core.Path.{_≡_, refl}
 use mathlib.Core.Bool.{Bool, true, false, not}
 use Prim.Native.Nat.{ℕ, _<_}

@@ -51,6 +51,7 @@ pub good-size : (n : ℕ) → badSize n ≡ false → n ≤ 64
 unfolding badSize
 good-size n e = ltb-false 64 n (or-none (eqb n 0) (ltb 64 n) e .1)
 
+-- and what is 1 to 64 is no bad size
 pub size-good : (n : ℕ) → 1 ≤ n → n ≤ 64 → badSize n ≡ false
 unfolding badSize
 size-good n i j = rw (ne-eqb n 0 (λ e. absurd (omega arith)), le-ltb 64 n j)

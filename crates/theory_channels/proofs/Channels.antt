@@ -3,13 +3,13 @@ use mathlib.Core.Path.{_≡_}
 use mathlib.Core.Logic.{_≢_, inl, inr}
 use mathlib.Core.Bool.{Bool, true, false}
 use Prim.Native.Nat.{ℕ, _<_}
+use borrow.Author.Tests.{not-true}
 use Rattle.mesh.specs.Mesh.{Mesh, onMesh}
 use Rattle.mesh.specs.declared.Heading.{Heading}
 use Rattle.mesh.specs.declared.Last.the-variants.{Made as made}
 use Rattle.mesh.specs.Headings.{opposite}
 use Rattle.mesh.specs.Turns.{reverses, turnsBack, hopBreaks, turnBreaks, forbidden, mayTurn}
 use Rattle.mesh.specs.Hops.{moved, stays}
-use borrow.Author.Tests.{not-true}
 use Rattle.mesh.proofs.Bools.{true-false, value, and-both}
 use Rattle.mesh.proofs.Headings.{same-self, same-heading}
 use Rattle.mesh.proofs.Hops.{on-mesh, stays-on}
@@ -51,22 +51,7 @@ module _ (a b : Channel) where
   unfolding reverse reverses
   reverse-reverses e = rw e (same-self (opposite (a .way)))
 
--- It may follow if its hop is permitted.
-pub permitted-follows : (west : ℕ → Bool) (w : Mesh) (a b : Channel) → isChannel w a ≡ true → isChannel w b ≡ true →
-    b .row ≡ endRow a → b .column ≡ endColumn a → Permitted west (b .column) (made (a .way)) (b .way) → MayFollow west w a b
-unfolding mayTurn turnsBack hopBreaks
-permitted-follows west w a b i j row column p =
-    let (v, u) = and-both (permitted-true west (b .column) p) in
-    record {
-      channel-a = i;
-      channel-b = j;
-      row = row;
-      column = column;
-      no-reverse = λ e. true-false (reverse-reverses a b e) (not-true _ v);
-      permitted = not-true _ u;
-    }
-
--- A packet that has come through a channel, and then through one that may follow, is later.
+-- Where a channel may follow another, its hop is permitted, and a packet that has come through both is later than after the first.
 module _ (west : ℕ → Bool) (w : Mesh) (a b : Channel) (f : MayFollow west w a b) where
   turn-permitted : mayTurn west (endColumn a) (made (a .way)) (b .way) ≡ true
   unfolding mayTurn turnsBack hopBreaks
@@ -90,3 +75,18 @@ module _ (west : ℕ → Bool) (w : Mesh) (a b : Channel) (f : MayFollow west w 
 
   pub follower-rises : channelRank west w a < channelRank west w b
   follower-rises = later-rises west (w .columns) (w .rows) (came a) (came b) (channel-ends w a (f .channel-a) .0) follower-later
+
+-- A channel that starts where another ends may follow it if its hop is permitted.
+pub permitted-follows : (west : ℕ → Bool) (w : Mesh) (a b : Channel) → isChannel w a ≡ true → isChannel w b ≡ true →
+    b .row ≡ endRow a → b .column ≡ endColumn a → Permitted west (b .column) (made (a .way)) (b .way) → MayFollow west w a b
+unfolding mayTurn turnsBack hopBreaks
+permitted-follows west w a b i j row column p =
+    let (v, u) = and-both (permitted-true west (b .column) p) in
+    record {
+      channel-a = i;
+      channel-b = j;
+      row = row;
+      column = column;
+      no-reverse = λ e. true-false (reverse-reverses a b e) (not-true _ v);
+      permitted = not-true _ u;
+    }

@@ -61,13 +61,10 @@ WS = two 2 7 W S
 abbrev pub SE : HandIn
 SE = two 2 6 S E
 
-abbrev pub four : List HandIn
-four = EN ∷ NW ∷ WS ∷ SE ∷ []
-
 abbrev pub Four : HandIn → Type 0
-Four h = List·Memᴰ h four
+Four h = List·Memᴰ h (EN ∷ NW ∷ WS ∷ SE ∷ [])
 
--- they wait in a ring
+-- a packet on each
 abbrev pub en : Waiting Four
 en = waiting Four 1 6 E N (List·Memᴰ·head refl)
 
@@ -80,6 +77,7 @@ ws = waiting Four 2 7 W S (List·Memᴰ·tail (List·Memᴰ·tail (List·Memᴰ�
 abbrev pub se : Waiting Four
 se = waiting Four 2 6 S E (List·Memᴰ·tail (List·Memᴰ·tail (List·Memᴰ·tail (List·Memᴰ·head refl))))
 
+-- they wait in a ring
 pub four-wait-in-a-ring : Chain (WaitsFor Four) en en
 unfolding waiting rowAfter columnAfter
 four-wait-in-a-ring =

@@ -25,6 +25,39 @@ not-itself south e f = absurd (omega arith)
 not-itself east e f = absurd (omega arith)
 not-itself west e f = absurd (omega arith)
 
+-- the way from a node to its neighbour
+way : {r c x y : ℕ} → Neighbour r c x y → Heading
+way north = N
+way south = S
+way east = E
+way west = W
+
+way-leads : {r c x y : ℕ} (n : Neighbour r c x y) → (rowAfter (way n) r ≡ x) × (columnAfter (way n) c ≡ y)
+unfolding way rowAfter columnAfter
+way-leads north = (omega arith, refl)
+way-leads south = (omega arith, refl)
+way-leads east = (refl, omega arith)
+way-leads west = (refl, omega arith)
+
+no-other-way : {r c x y : ℕ} (n : Neighbour r c x y) (h : Heading) → rowAfter h r ≡ x → columnAfter h c ≡ y → h ≡ way n
+unfolding way rowAfter columnAfter
+no-other-way north E e f = absurd (omega arith)
+no-other-way north N e f = refl
+no-other-way north S e f = absurd (omega arith)
+no-other-way north W e f = absurd (omega arith)
+no-other-way south E e f = absurd (omega arith)
+no-other-way south N e f = absurd (omega arith)
+no-other-way south S e f = refl
+no-other-way south W e f = absurd (omega arith)
+no-other-way east E e f = refl
+no-other-way east N e f = absurd (omega arith)
+no-other-way east S e f = absurd (omega arith)
+no-other-way east W e f = absurd (omega arith)
+no-other-way west E e f = absurd (omega arith)
+no-other-way west N e f = absurd (omega arith)
+no-other-way west S e f = absurd (omega arith)
+no-other-way west W e f = refl
+
 module _ (columns rows : ℕ) where
   -- a hop that stays on the mesh leads to a neighbour, and no other does
   stays-near : (h : Heading) (r c : ℕ) → stays columns rows h r c ≡ true → Neighbour r c (rowAfter h r) (columnAfter h c)
@@ -62,39 +95,6 @@ module _ (w : Mesh) where
         let (x, y) = on-mesh w _ _ (n .second) in
         and-intro (n .first) (near-stays (w .columns) (w .rows) (a .way) (a .row) (a .column) x y (n .near)),
   )
-
-  -- the way from a node to its neighbour
-  way : {r c x y : ℕ} → Neighbour r c x y → Heading
-  way north = N
-  way south = S
-  way east = E
-  way west = W
-
-  way-leads : {r c x y : ℕ} (n : Neighbour r c x y) → (rowAfter (way n) r ≡ x) × (columnAfter (way n) c ≡ y)
-  unfolding way rowAfter columnAfter
-  way-leads north = (omega arith, refl)
-  way-leads south = (omega arith, refl)
-  way-leads east = (refl, omega arith)
-  way-leads west = (refl, omega arith)
-
-  no-other-way : {r c x y : ℕ} (n : Neighbour r c x y) (h : Heading) → rowAfter h r ≡ x → columnAfter h c ≡ y → h ≡ way n
-  unfolding way rowAfter columnAfter
-  no-other-way north E e f = absurd (omega arith)
-  no-other-way north N e f = refl
-  no-other-way north S e f = absurd (omega arith)
-  no-other-way north W e f = absurd (omega arith)
-  no-other-way south E e f = absurd (omega arith)
-  no-other-way south N e f = absurd (omega arith)
-  no-other-way south S e f = refl
-  no-other-way south W e f = absurd (omega arith)
-  no-other-way east E e f = refl
-  no-other-way east N e f = absurd (omega arith)
-  no-other-way east S e f = absurd (omega arith)
-  no-other-way east W e f = absurd (omega arith)
-  no-other-way west E e f = absurd (omega arith)
-  no-other-way west N e f = absurd (omega arith)
-  no-other-way west S e f = absurd (omega arith)
-  no-other-way west W e f = refl
 
   pub neighbours-link : (r c x y : ℕ) → Neighbours w r c x y → Link w r c x y
   unfolding endRow endColumn

@@ -17,8 +17,8 @@ use Rattle.mesh.specs.Rules.{Trip, blocked, own, again, atDestination}
 use Rattle.mesh.specs.Hops.{fresh, moved, stays, lawful}
 use Rattle.mesh.specs.Walk.{arrived, hopAt}
 use Rattle.mesh.specs.Mesh.{place}
-use Rattle.mesh.proofs.Hops.{state}
 use Rattle.mesh.proofs.Bools.{true-false, and-both}
+use Rattle.mesh.proofs.Hops.{state}
 use Rattle.theory_walk.specs.Course.{Course}
 use Rattle.theory_walk.specs.Claims.{Fails}
 use Rattle.theory_walk.proofs.Coordinates.{up, to-west, Sight, left, Off, To, west, notOwn, off-by, here-off, to-other, sight-to}
