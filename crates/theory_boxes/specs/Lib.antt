@@ -1,0 +1,4 @@
+pub mod Boxes
+pub mod Boxing
+pub mod Merging
+pub mod Cases
