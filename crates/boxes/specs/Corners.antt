@@ -1,0 +1,14 @@
+-- A box by its corners, and which box encloses which. Assumes nothing.
+use mathlib.Core.Bool.{Bool, _&&_}
+use lib.Dec.{leb}
+use Rattle.theory_boxes.specs.Boxes.{Box}
+use Rattle.boxes.specs.declared.Corners.{Corners}
+
+-- the box of these corners
+unfoldable pub boxFrom : Corners → Box
+boxFrom x = record { low-row = x .south .0; low-column = x .west .0; high-row = x .north .0; high-column = x .east .0 }
+
+-- every node of a is one of b
+unfoldable pub encloses : Box → Box → Bool
+encloses b a =
+    (leb (b .low-row) (a .low-row) && leb (a .high-row) (b .high-row)) && (leb (b .low-column) (a .low-column) && leb (a .high-column) (b .high-column))
