@@ -1,5 +1,5 @@
-/* A bench display: marks a map; on each network routes a packet, judges the route and moves the packet along it; then a table of sends,
- * hand-ins that break a turn rule, the better of both networks, and maps drawn by number.
+/* A bench display: marks a map and lists its boxes; on each network routes a packet, judges the route and moves the packet along it; then a
+ * table of sends, hand-ins that break a turn rule, the better of both networks, and maps drawn by number.
  *   c/library && cc c/display.c target/staticlib/libpinduguil.a -o display && ./display */
 #include <stdio.h>
 
@@ -64,6 +64,18 @@ static void show_marks(void) {
     }
 }
 
+/* The map's boxes, with a list for so many faults. */
+static void show_boxes(uint32_t faults) {
+    static uint32_t list[4 * COLUMNS * ROWS];
+    uint32_t boxes = pinduguil_box(COLUMNS, ROWS, map, sizeof map, list, 4 * (size_t)faults);
+    if (boxes >= PINDUGUIL_REFUSED) {
+        show_refusal(boxes - PINDUGUIL_REFUSED);
+        return;
+    }
+    for (const uint32_t *box = list; box < list + 4 * boxes; box += 4)
+        printf("box (%u, %u) to (%u, %u)\n", (unsigned)box[0], (unsigned)box[1], (unsigned)box[2], (unsigned)box[3]);
+}
+
 /* The map of a number. */
 static void draw(uint32_t number, uint32_t draws) {
     uint32_t faults = pinduguil_draw(COLUMNS, ROWS, number, draws, map, sizeof map);
@@ -74,12 +86,16 @@ static void draw(uint32_t number, uint32_t draws) {
     }
     printf("faults %u, ", (unsigned)faults);
     show_marks();
+    show_boxes(faults);
 }
 
 int main(void) {
     map[3 * COLUMNS + 4] = 1;
     map[4 * COLUMNS + 5] = 1;
     show_marks();
+    /* One box of two faults; the list for one of them is too short. */
+    show_boxes(2);
+    show_boxes(1);
 
     if (follow(PINDUGUIL_FIRST) != 0 || follow(PINDUGUIL_SECOND) != 0) return 1;
 

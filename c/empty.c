@@ -29,6 +29,19 @@ int main(void) {
     show("mark, none of them", pinduguil_mark(COLUMNS, ROWS, NULL, 0, NULL, 0, NULL, 0));
     show("mark, no columns", pinduguil_mark(0, ROWS, NULL, 0, NULL, 0, NULL, 0));
 
+    uint32_t list[4] = {9, 9, 9, 9};
+    show("box, no map", pinduguil_box(COLUMNS, ROWS, NULL, 0, list, 4));
+    show("box, no list, no fault", pinduguil_box(COLUMNS, ROWS, map, sizeof map, NULL, 0));
+    show("box, a list, no fault", pinduguil_box(COLUMNS, ROWS, map, sizeof map, list, 4));
+    map[3 * COLUMNS + 4] = 1;
+    show("box, no list, a fault", pinduguil_box(COLUMNS, ROWS, map, sizeof map, NULL, 0));
+    printf("list %u %u %u %u\n", (unsigned)list[0], (unsigned)list[1], (unsigned)list[2], (unsigned)list[3]);
+    show("box, a list, a fault", pinduguil_box(COLUMNS, ROWS, map, sizeof map, list, 4));
+    printf("list %u %u %u %u\n", (unsigned)list[0], (unsigned)list[1], (unsigned)list[2], (unsigned)list[3]);
+    map[3 * COLUMNS + 4] = 0;
+    show("box, neither", pinduguil_box(COLUMNS, ROWS, NULL, 0, NULL, 0));
+    show("box, no columns", pinduguil_box(0, ROWS, NULL, 0, NULL, 0));
+
     show("route, no map", pinduguil_route(PINDUGUIL_FIRST, COLUMNS, ROWS, NULL, 0, 1, 2, 1, 4, out, sizeof out));
     show("route, no output", pinduguil_route(PINDUGUIL_FIRST, COLUMNS, ROWS, map, sizeof map, 1, 2, 1, 4, NULL, 0));
     show("route, no output, no hops", pinduguil_route(PINDUGUIL_SECOND, COLUMNS, ROWS, map, sizeof map, 1, 2, 1, 2, NULL, 0));

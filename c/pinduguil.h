@@ -19,6 +19,7 @@
  *   5 a fault where none is allowed  10 the output is too short
  * For a route 9 comes to this: NW and SW are forbidden in the source's column, and either its west neighbour is in a block and the
  * destination in another row or to the west, or it is in column 0 (so the network is the second) and the destination in another row.
+ * Marking and boxes are refused by 1 to 5, then by 10; for boxes that is a list of fewer than four numbers for each fault.
  * A table of sends as a whole is refused by 1 to 5, then by
  *   18 the list isn't whole sends, or there are fewer entries for answers than sends
  * Letters to legs are refused by 11, then 23, then 10; legs to letters by the first of 19 to 21 that is met from the file's front, then 22,
@@ -87,6 +88,16 @@ extern "C" {
  * left alone; numbers of rounds beyond the first always are. */
 uint32_t pinduguil_mark(uint32_t columns, uint32_t rows, const uint8_t *map, size_t map_length,
                         uint8_t *out, size_t out_length, uint64_t *rounds, size_t rounds_length);
+
+/* Blocks from rectangles, without marking. Each fault is a box of one node. Two boxes less than 3 apart in column and less than 2 apart in row
+ * are replaced by the one box around both, and the same is done with the shorter list, until none are that close. Apart is the difference of the
+ * nearest numbers, 0 where they overlap. The boxes that are left are the blocks: as many as pinduguil_mark answers, and a node is in one exactly
+ * if it is marked 1 or 2.
+ * Writes four numbers for each box, lowest row, lowest column, highest row and highest column, boxes by lowest row, then lowest column, and
+ * answers the number of boxes, at most 4,096; or PINDUGUIL_REFUSED plus 1 to 5 or 10. The list needs four numbers for each fault of the map: one
+ * of 4 * PINDUGUIL_MOST_NODES always has room. Numbers after the last box, up to four for each fault, become 0; later ones are left alone. On a
+ * refusal all of them are. */
+uint32_t pinduguil_box(uint32_t columns, uint32_t rows, const uint8_t *map, size_t map_length, uint32_t *list, size_t list_length);
 
 /* Route from a source to (row, column). Writes the letters of the hops and answers their number, at most PINDUGUIL_MOST_HOPS; or
  * PINDUGUIL_REFUSED plus 1 to 10. Bytes of out after the letters are left alone; on a refusal all of them are. */

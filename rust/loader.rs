@@ -1,9 +1,9 @@
-//! Loads a map and marks it; on each network routes a packet, judges the route, writes its file of legs and reads it back, and moves the
-//! packet along it; picks the better network; routes a table of sends, with room for all and without; then what bad requests, hand-ins and
-//! files are answered; and a map drawn by number, marked and routed on.
+//! Loads a map and marks it, and lists its boxes; on each network routes a packet, judges the route, writes its file of legs and reads it back,
+//! and moves the packet along it; picks the better network; routes a table of sends, with room for all and without; then what bad requests,
+//! hand-ins and files are answered; and a map drawn by number, marked, boxed and routed on.
 //!   c/library && rustc -O rust/loader.rs -L target/staticlib -l static=pinduguil -o loader && ./loader
 mod wrapper;
-use wrapper::{draw, legs_to_letters, letters_to_legs, Mesh, Moved, Network, Packet, Place, Refusal, MOST_HOPS};
+use wrapper::{draw, legs_to_letters, letters_to_legs, Corners, Mesh, Moved, Network, Packet, Place, Refusal, MOST_HOPS};
 
 /// A route's file, and the letters that are read from it.
 fn show_file(letters: &[u8]) -> Result<(), Refusal> {
@@ -12,6 +12,18 @@ fn show_file(letters: &[u8]) -> Result<(), Refusal> {
     println!("file {file:02x?}");
     println!("letters {}", String::from_utf8_lossy(legs_to_letters(file, &mut out)?));
     Ok(())
+}
+
+/// The boxes of a map, with room for so many.
+fn show_boxes(mesh: &Mesh, room: usize) {
+    match mesh.boxes(&mut vec![Corners::default(); room]) {
+        Err(why) => println!("no {}", why.0),
+        Ok(boxes) => {
+            for Corners { low, high } in boxes {
+                println!("box ({}, {}) to ({}, {})", low.row, low.column, high.row, high.column);
+            }
+        }
+    }
 }
 
 fn main() {
@@ -24,6 +36,7 @@ fn main() {
     let (mut marks, mut rounds) = (vec![0; map.len()], 0);
     let blocks = mesh.mark(&mut marks, &mut rounds);
     println!("blocks {blocks:?}, rounds {rounds}");
+    show_boxes(&mesh, 2);
 
     let (source, destination) = (Place { row: 1, column: 5 }, Place { row: 6, column: 5 });
     let mut out = vec![0; MOST_HOPS];
@@ -77,6 +90,8 @@ fn main() {
     println!("{:?}", mesh.route(Network::First, source, above, &mut out).map(String::from_utf8_lossy));
     println!("{:?}", mesh.route(Network::Second, west, above, &mut out));
     println!("{:?}", Mesh { columns: 65, ..mesh }.mark(&mut marks, &mut rounds));
+    show_boxes(&mesh, 1);
+    show_boxes(&Mesh { rows: 0, ..mesh }, 2);
     println!("{:?}", mesh.judge(Network::First, Place { row: 3, column: 5 }, destination, b"N"));
     println!("{:?}", mesh.judge(Network::First, source, destination, b"NX"));
     for letters in [b"EN", b"ES", b"NW"] {
@@ -94,6 +109,7 @@ fn main() {
             Ok((faults, drawn)) => {
                 let blocks = drawn.mark(&mut marks, &mut rounds);
                 println!("faults {faults}, blocks {blocks:?}, rounds {rounds}");
+                show_boxes(&drawn, faults as usize);
                 println!("{:?}", drawn.route(Network::First, source, destination, &mut out).map(String::from_utf8_lossy));
             }
         }

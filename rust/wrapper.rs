@@ -20,6 +20,7 @@ pub mod raw {
                 columns: u32, rows: u32, map: *const u8, map_length: usize, out: *mut u8, out_length: usize, rounds: *mut u64,
                 rounds_length: usize,
             ) -> u32;
+            pub fn pinduguil_box(columns: u32, rows: u32, map: *const u8, map_length: usize, list: *mut u32, list_length: usize) -> u32;
             pub fn pinduguil_route(
                 network: u32, columns: u32, rows: u32, map: *const u8, map_length: usize, source_row: u32, source_column: u32, row: u32,
                 column: u32, out: *mut u8, out_length: usize,
@@ -55,6 +56,10 @@ pub mod raw {
     pub fn mark(columns: u32, rows: u32, map: &[u8], out: &mut [u8], rounds: &mut [u64]) -> u32 {
         let (m, o, r) = (map.len(), out.len(), rounds.len());
         unsafe { library::pinduguil_mark(columns, rows, map.as_ptr(), m, out.as_mut_ptr(), o, rounds.as_mut_ptr(), r) }
+    }
+
+    pub fn boxes(columns: u32, rows: u32, map: &[u8], list: &mut [u32]) -> u32 {
+        unsafe { library::pinduguil_box(columns, rows, map.as_ptr(), map.len(), list.as_mut_ptr(), list.len()) }
     }
 
     pub fn route(
@@ -141,7 +146,7 @@ pub enum Network {
 }
 
 /// A row and a column, counted from 0. Two numbers in this order, and nothing else, so that a list of places is a list of numbers.
-#[derive(Clone, Copy, Debug, PartialEq, Eq)]
+#[derive(Clone, Copy, Debug, Default, PartialEq, Eq)]
 #[repr(C)]
 pub struct Place {
     pub row: u32,
@@ -152,6 +157,14 @@ impl Place {
     fn pair(self) -> (u32, u32) {
         (self.row, self.column)
     }
+}
+
+/// A box by two of its corners: lowest row and column, highest row and column. Two places in this order, and nothing else.
+#[derive(Clone, Copy, Debug, Default, PartialEq, Eq)]
+#[repr(C)]
+pub struct Corners {
+    pub low: Place,
+    pub high: Place,
 }
 
 #[derive(Clone, Copy, Debug, PartialEq, Eq)]
@@ -248,6 +261,16 @@ impl Mesh<'_> {
     /// changes; answers the number of blocks. On a refusal nothing is written.
     pub fn mark(&self, out: &mut [u8], rounds: &mut u64) -> Result<u32, Refusal> {
         answer(raw::mark(self.columns, self.rows, self.map, out, std::slice::from_mut(rounds)))
+    }
+
+    /// Blocks from rectangles: boxes around the faults, two that are close replaced by one until none are (c/pinduguil.h says when). Writes those
+    /// that are left to the start of `list`, and answers them: the blocks, by lowest row, then lowest column. There must be an entry of `list` for
+    /// each fault, else it is refused by 10; of as many entries those after the last box become zeros. On a refusal nothing is written.
+    pub fn boxes<'o>(&self, list: &'o mut [Corners]) -> Result<&'o [Corners], Refusal> {
+        // Sound: two places are four numbers.
+        let numbers = unsafe { std::slice::from_raw_parts_mut(list.as_mut_ptr().cast(), 4 * list.len()) };
+        let boxes = answer(raw::boxes(self.columns, self.rows, self.map, numbers))?;
+        Ok(&list[..boxes as usize])
     }
 
     /// Writes the letters of the hops to the start of `out`, and answers them.

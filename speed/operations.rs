@@ -1,14 +1,17 @@
 //! The operations on 64 x 64 (turning: on 64 x 2), the proved library against rust/plain_mesh.rs. A case is a list of calls; each checks and
 //! marks its map. All are on the first network but second-network, and picking, which routes on both. A table of sends is one call; singles-N
-//! sets it against as many single calls of the library. Letters to legs and back, against rust/plain_legs.rs, are one call and have no map. Draws,
-//! against rust/plain_draw.rs or speed/fast_draw.rs, have none either: each call takes the next number.
+//! sets it against as many single calls of the library. Boxes, against rust/plain_boxes.rs, check their map and mark nothing; marks-M sets them
+//! against the library's marking of the same map, which answers as many blocks. Letters to legs and back, against rust/plain_legs.rs, are one call
+//! and have no map. Draws, against rust/plain_draw.rs or speed/fast_draw.rs, have none either: each call takes the next number.
 //!   operations CASE                   compares answers and output bytes; prints what was done, and then in one line the units of work in
 //!                                     the list and its nanoseconds, each call at its best, proved and plain
 //!   operations CASE proved|plain N    makes the first N calls and prints nothing, for counting instructions
 //! Cases: most-rounds, dense, judging, turning, either of these also with -nothing, one-map, second-network, many-maps, picking, moving,
-//! table-N, singles-N, draws-N, fast-draws-N, and by what is written legs-L and letters-L, where L is straight, mixed or turning. `speed/run`
-//! builds it and shows its figures.
+//! table-N, singles-N, draws-N, fast-draws-N, boxes-M and marks-M, where M is some, dense, all, most-rounds, far or tall, and by what is written
+//! legs-L and letters-L, where L is straight, mixed or turning. `speed/run` builds it and shows its figures.
 mod fast_draw;
+#[path = "../rust/plain_boxes.rs"]
+mod plain_boxes;
 #[path = "../rust/plain_draw.rs"]
 mod plain_draw;
 #[path = "../rust/plain_legs.rs"]
@@ -37,6 +40,7 @@ struct Case {
     file: Vec<u8>,   // of the legs of these letters
     sends: Vec<u32>, // a table's
     draws: u32,
+    list: usize,     // numbers of boxes
     room: usize,     // bytes of output
     second: usize,   // the same of the second network, for a pick
     calls: usize,
@@ -49,6 +53,7 @@ struct Lent {
     out: Vec<u8>,
     second: Vec<u8>, // for a pick
     answers: Vec<u32>,
+    list: Vec<u32>, // of boxes
     index: [u64; 1], // or the number of a table's letters, of a pick's, or of what is written
     refusal: [u64; 1],
     packet: [u32; 5],
@@ -59,8 +64,8 @@ struct Lent {
 impl Lent {
     fn new(case: &Case) -> Lent {
         let answers = vec![9; case.sends.len() / 4];
-        let (out, second) = (vec![9; case.room], vec![9; case.second]);
-        Lent { out, second, answers, index: [9], refusal: [9], packet: [0; 5], trips: 0, moving: false }
+        let (out, second, list) = (vec![9; case.room], vec![9; case.second], vec![9; case.list]);
+        Lent { out, second, answers, list, index: [9], refusal: [9], packet: [0; 5], trips: 0, moving: false }
     }
 }
 
@@ -88,6 +93,14 @@ fn proved_mark(case: &Case, lent: &mut Lent) -> u32 {
 
 fn plain_mark(case: &Case, lent: &mut Lent) -> u32 {
     plain_mesh::mark(&plain(case, case.map()), &mut lent.out, &mut lent.index)
+}
+
+fn proved_boxes(case: &Case, lent: &mut Lent) -> u32 {
+    raw::boxes(case.columns, case.rows, case.map(), &mut lent.list)
+}
+
+fn plain_boxes(case: &Case, lent: &mut Lent) -> u32 {
+    plain_boxes::boxes(case.columns, case.rows, case.map(), &mut lent.list)
 }
 
 fn proved_judge(case: &Case, lent: &mut Lent) -> u32 {
@@ -215,6 +228,17 @@ fn map_of_most_rounds() -> Vec<u8> {
     map
 }
 
+/// Faults at some of the places where they are allowed, by row and column.
+fn map_of(is_fault: fn(usize, usize) -> bool) -> Vec<u8> {
+    let mut map = vec![0; NODES];
+    for row in 1..63 {
+        for column in 2..62 {
+            map[at(row, column)] = is_fault(row, column) as u8;
+        }
+    }
+    map
+}
+
 struct Random(u32);
 
 impl Random {
@@ -282,11 +306,27 @@ fn marking(map: Vec<u8>) -> Case {
         file: vec![],
         sends: vec![],
         draws: 0,
+        list: 0,
         room: NODES + 8,
         second: 0,
         calls: 1,
         sides: [proved_mark, plain_mark],
     }
+}
+
+/// Boxes of a map, by its name, with a list that is longer than need be.
+fn boxing(rng: &mut Random, map: &str, other: fn(&Case, &mut Lent) -> u32) -> Case {
+    let map = match map {
+        "some" => rng.map(200, 1),
+        "dense" => rng.map(1000, 1),
+        "all" => map_of(|_, _| true),
+        "most-rounds" => map_of_most_rounds(),
+        "far" => map_of(|row, column| column % 3 == 2 && row % 2 == 1),
+        "tall" => map_of(|row, column| column % 3 == 2 && (row % 2 == 1 || column < 30)),
+        _ => panic!("no map {}", map),
+    };
+    let faults = map.iter().filter(|&&x| x == 1).count();
+    Case { list: 4 * faults + 8, sides: [proved_boxes, other], ..marking(map) }
 }
 
 /// The faults are in rows 61 and 62, out of the walk's way.
@@ -388,7 +428,11 @@ fn find_case(name: &str) -> Case {
         "draws-20" => drawing(20, plain_draw),
         "fast-draws-1000" => drawing(1000, fast_draw),
         "fast-draws-20" => drawing(20, fast_draw),
-        _ => panic!("no case {}", name),
+        _ => match name.split_once('-') {
+            Some(("boxes", map)) => boxing(&mut rng, map, plain_boxes),
+            Some(("marks", map)) => boxing(&mut rng, map, proved_mark),
+            _ => panic!("no case {}", name),
+        },
     }
 }
 
@@ -405,7 +449,8 @@ fn compare(name: &str, case: &Case) -> (String, u64) {
         }
         let [proved, plain] = [0, 1].map(|side| case.sides[side](case, &mut lents[side]));
         assert_eq!(proved, plain, "{name}, call {call}");
-        assert_eq!(lents[0], lents[1], "{name}, call {call}");
+        // a marking writes something else
+        assert!(name.starts_with("marks-") || lents[0] == lents[1], "{name}, call {call}");
         served += (proved < REFUSED) as u32;
         hops += if proved < REFUSED { proved } else { 0 };
         last = proved;
@@ -449,6 +494,9 @@ fn compare(name: &str, case: &Case) -> (String, u64) {
             let (letters, file) = (case.letters.len(), case.file.len());
             let way = if name.starts_with("legs") { "letters to legs" } else { "legs to letters" };
             (format!("{way}: {letters} letters, a file of {file} bytes, both answer {last}, outputs equal"), letters as u64)
+        }
+        _ if name.starts_with("boxes-") || name.starts_with("marks-") => {
+            (format!("{name}: {faults} faults, both answer {last}"), calls as u64)
         }
         _ if name.contains("draws-") => {
             let draws = case.draws;

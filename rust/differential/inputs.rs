@@ -1,5 +1,6 @@
 //! Random maps, places and networks.
 use crate::lent::Input;
+use crate::plain_boxes::{fault_boxes, merge};
 use crate::plain_mesh::{Block, Checked, Mesh, Place};
 use crate::random::Random;
 use std::fmt;
@@ -26,7 +27,6 @@ impl Case {
         let mut blocks = vec![];
         if let Ok(mesh) = &mesh {
             blocks = mesh.blocks();
-            blocks.sort();
             check_blocks(columns, map, mesh.marks(), &blocks);
         }
         let widened = mesh.as_ref().map(Mesh::widened).map_err(|why| *why);
@@ -38,8 +38,24 @@ impl Case {
         self.mesh.as_ref().err().copied().unwrap_or(0)
     }
 
+    /// How many bytes of the map are those of a fault.
+    pub fn faults(&self) -> usize {
+        self.map.given().iter().filter(|&&x| x == 1).count()
+    }
+
     pub fn without_faults(columns: u32, rows: u32) -> Case {
         Case::new(columns, rows, &vec![0; (columns * rows) as usize])
+    }
+
+    /// Faults at some of the places where they are allowed, by row and column.
+    pub fn chosen(columns: usize, rows: usize, mut is_fault: impl FnMut(usize, usize) -> bool) -> Case {
+        let mut map = vec![0; columns * rows];
+        for row in 1..rows - 1 {
+            for column in 2..columns - 2 {
+                map[row * columns + column] = is_fault(row, column) as u8;
+            }
+        }
+        Case::new(columns as u32, rows as u32, &map)
     }
 
     pub fn random(rng: &mut Random, columns: usize, rows: usize) -> Case {
@@ -92,23 +108,12 @@ impl Case {
     }
 }
 
-/// Blocks are rectangles of bad nodes that hold every one; and they are what the faults give, each a box of one node, by joining boxes that
-/// are less than 3 apart in column and less than 2 in row.
+/// Blocks are rectangles of bad nodes that hold every one; and they are the boxes that are left of the faults, in the same order.
 fn check_blocks(columns: u32, map: &[u8], marks: &[u8], blocks: &[Block]) {
     let nodes: i32 = blocks.iter().map(|b| (b[1] - b[0] + 1) * (b[3] - b[2] + 1)).sum();
     assert_eq!(nodes as usize, marks.iter().filter(|&&x| x != 0).count(), "blocks are rectangles");
-    let mut boxes: Vec<Block> = vec![];
-    for (i, _) in map.iter().enumerate().filter(|(_, &x)| x == 1) {
-        let (r, c) = (i as i32 / columns as i32, i as i32 % columns as i32);
-        let mut b = [r, r, c, c];
-        while let Some(k) = boxes.iter().position(|a| b[2] - a[3] < 3 && a[2] - b[3] < 3 && b[0] - a[1] < 2 && a[0] - b[1] < 2) {
-            let a = boxes.swap_remove(k);
-            b = [a[0].min(b[0]), a[1].max(b[1]), a[2].min(b[2]), a[3].max(b[3])];
-        }
-        boxes.push(b);
-    }
-    boxes.sort();
-    assert_eq!(blocks, boxes, "blocks are the joined boxes");
+    let corners: Vec<_> = blocks.iter().map(|&[south, north, west, east]| [south, west, north, east].map(|n| n as u32)).collect();
+    assert_eq!(corners, merge(fault_boxes(columns, map)), "blocks are the merged boxes");
 }
 
 /// The number of a network, seldom of none. Some of the others have the low bits of one.

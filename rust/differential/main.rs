@@ -1,8 +1,9 @@
-//! The proved library against rust/plain_mesh.rs, rust/plain_legs.rs and rust/plain_draw.rs on random requests: answers, every byte of an output
-//! or a record and beside it, and that maps, sends, hand-ins, letters and files are as they were. Prints counts; at the first difference it
-//! prints the case and exits with status 1. Each operation has a file of its own.
+//! The proved library against rust/plain_mesh.rs, rust/plain_boxes.rs, rust/plain_legs.rs and rust/plain_draw.rs on random requests: answers, every
+//! byte of an output or a record and beside it, and that maps, sends, hand-ins, letters and files are as they were. Prints counts; at the first
+//! difference it prints the case and exits with status 1. Each operation has a file of its own.
 //!   c/library && rustc -O rust/differential/main.rs -L target/staticlib -l static=pinduguil -o differential && ./differential
 mod batch;
+mod boxing;
 mod channels;
 mod drawing;
 mod inputs;
@@ -12,6 +13,8 @@ mod lent;
 mod marking;
 mod moving;
 mod picking;
+#[path = "../plain_boxes.rs"]
+mod plain_boxes;
 #[path = "../plain_draw.rs"]
 mod plain_draw;
 #[path = "../plain_legs.rs"]
@@ -29,6 +32,7 @@ use random::Random;
 struct Tests {
     compared: lent::Compared,
     marking: marking::Marking,
+    boxing: boxing::Boxing,
     routing: routing::Routing,
     picking: picking::Picking,
     batch: batch::Batch,
@@ -44,6 +48,7 @@ impl Tests {
     fn check(&mut self, rng: &mut Random, case: &Case, turns: usize) {
         let compared = &mut self.compared;
         self.marking.check(rng, case, compared);
+        self.boxing.check(rng, case, compared);
         self.batch.check(network(rng), rng, case, 12, compared);
         for _ in 0..turns {
             let (s, d) = (place(rng, case), place(rng, case));
@@ -75,8 +80,8 @@ impl Tests {
         let lent::Compared { inputs, outputs, .. } = self.compared;
         println!("{outputs} bytes of outputs and {inputs} of inputs compared");
         let met = [
-            self.marking.report(), self.routing.report(), self.picking.report(), self.batch.report(), self.judging.report(),
-            self.moving.report(), self.legs.report(), self.drawing.report(), self.channels.report(),
+            self.marking.report(), self.boxing.report(), self.routing.report(), self.picking.report(), self.batch.report(),
+            self.judging.report(), self.moving.report(), self.legs.report(), self.drawing.report(), self.channels.report(),
         ];
         met.iter().all(|&met| met)
     }
@@ -112,15 +117,17 @@ fn main() {
         tests.check(&mut rng, &case, 8);
     }
     let meshes = tests.compared.requests;
+    tests.boxing.check_maps(&mut rng, &mut tests.compared);
+    let boxed = tests.compared.requests;
     tests.legs.check(&mut rng, &mut tests.compared);
     let before = tests.compared.requests;
     tests.drawing.check(&mut rng, &mut tests.compared);
     let drawn = tests.compared.requests;
     tests.channels.check(&mut rng, &mut tests.judging, &mut tests.compared);
     let all = tests.compared.requests;
-    let (small, legs, draws, tours) = (meshes - largest - sizes, before - meshes, drawn - before, all - drawn);
+    let (small, boxes, legs, draws, tours) = (meshes - largest - sizes, boxed - meshes, before - boxed, drawn - before, all - drawn);
     println!("{all} requests, no difference: {sizes} over every size, {largest} on 64 x 64, {small} on small meshes");
-    println!("    and {legs} of legs, {draws} of draws, {tours} of tours");
+    println!("    and {boxes} of boxes on maps of their own, {legs} of legs, {draws} of draws, {tours} of tours");
     if !tests.report() {
         println!("an answer, a null pointer or the longest tour was never met");
         std::process::exit(1);
