@@ -3,23 +3,18 @@
 #![allow(dead_code)]
 use crate::plain_mesh::{check_map, REFUSED};
 
-/// A box: lowest row, lowest column, highest row, highest column. In the order of the list.
+/// A box: lowest row, lowest column, highest row, highest column. So boxes are sorted by lowest row, then lowest column.
 pub type Corners = [u32; 4];
 
-/// Each fault is a box of one node. In the order of the map.
+/// Each fault is a box of one node.
 pub fn fault_boxes(columns: u32, map: &[u8]) -> Vec<Corners> {
     let faults = (0..).zip(map).filter(|(_, &x)| x == 1);
     faults.map(|(i, _)| [i / columns, i % columns, i / columns, i % columns]).collect()
 }
 
-/// How far numbers are apart: the difference of the nearest ones, 0 where they overlap.
-fn apart(low: u32, high: u32, other_low: u32, other_high: u32) -> u32 {
-    other_low.saturating_sub(high).max(low.saturating_sub(other_high))
-}
-
-/// Less than 3 apart in column and less than 2 apart in row.
+/// Less than 3 apart in column and less than 2 apart in row, whichever box is further on.
 fn are_close(a: &Corners, b: &Corners) -> bool {
-    apart(a[1], a[3], b[1], b[3]) < 3 && apart(a[0], a[2], b[0], b[2]) < 2
+    a[1] < b[3] + 3 && b[1] < a[3] + 3 && a[0] < b[2] + 2 && b[0] < a[2] + 2
 }
 
 /// The one box around both.
@@ -27,7 +22,7 @@ fn around(a: Corners, b: Corners) -> Corners {
     [a[0].min(b[0]), a[1].min(b[1]), a[2].max(b[2]), a[3].max(b[3])]
 }
 
-/// Each box, the last one first, takes in those before it that are close, until none is.
+/// Each box, the last one first, takes in those that are close among the ones already there, until none is.
 pub fn merge(boxes: Vec<Corners>) -> Vec<Corners> {
     let mut merged: Vec<Corners> = vec![];
     for mut b in boxes.into_iter().rev() {

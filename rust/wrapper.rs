@@ -159,7 +159,8 @@ impl Place {
     }
 }
 
-/// A box by two of its corners: lowest row and column, highest row and column. Two places in this order, and nothing else.
+/// A box: its lowest row and column, its highest row and column. Two places in this order, and nothing else, so that a list of boxes is a list of
+/// numbers.
 #[derive(Clone, Copy, Debug, Default, PartialEq, Eq)]
 #[repr(C)]
 pub struct Corners {

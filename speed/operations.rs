@@ -449,8 +449,10 @@ fn compare(name: &str, case: &Case) -> (String, u64) {
         }
         let [proved, plain] = [0, 1].map(|side| case.sides[side](case, &mut lents[side]));
         assert_eq!(proved, plain, "{name}, call {call}");
-        // a marking writes something else
-        assert!(name.starts_with("marks-") || lents[0] == lents[1], "{name}, call {call}");
+        // a marking writes to another output than boxes do
+        if !name.starts_with("marks-") {
+            assert_eq!(lents[0], lents[1], "{name}, call {call}");
+        }
         served += (proved < REFUSED) as u32;
         hops += if proved < REFUSED { proved } else { 0 };
         last = proved;
@@ -495,9 +497,8 @@ fn compare(name: &str, case: &Case) -> (String, u64) {
             let way = if name.starts_with("legs") { "letters to legs" } else { "legs to letters" };
             (format!("{way}: {letters} letters, a file of {file} bytes, both answer {last}, outputs equal"), letters as u64)
         }
-        _ if name.starts_with("boxes-") || name.starts_with("marks-") => {
-            (format!("{name}: {faults} faults, both answer {last}"), calls as u64)
-        }
+        _ if name.starts_with("boxes-") => (format!("{name}: {faults} faults, both answer {last}, lists equal"), calls as u64),
+        _ if name.starts_with("marks-") => (format!("{name}: {faults} faults, both answer {last}"), calls as u64),
         _ if name.contains("draws-") => {
             let draws = case.draws;
             (format!("draw on 64 x 64: {calls} numbers of {draws} draws each, {hops} faults, outputs equal"), calls as u64)

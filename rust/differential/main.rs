@@ -75,7 +75,7 @@ impl Tests {
         self.picking.check(rng, case, (s, 1), (d, 62), &mut self.compared);
     }
 
-    /// Prints counts, and says whether every answer, every null pointer and the longest tour was met.
+    /// Prints counts, and says whether every answer, every null pointer, the most boxes and the longest tour was met.
     fn report(&self) -> bool {
         let lent::Compared { inputs, outputs, .. } = self.compared;
         println!("{outputs} bytes of outputs and {inputs} of inputs compared");
@@ -129,7 +129,7 @@ fn main() {
     println!("{all} requests, no difference: {sizes} over every size, {largest} on 64 x 64, {small} on small meshes");
     println!("    and {boxes} of boxes on maps of their own, {legs} of legs, {draws} of draws, {tours} of tours");
     if !tests.report() {
-        println!("an answer, a null pointer or the longest tour was never met");
+        println!("an answer, a null pointer, the most boxes or the longest tour was never met");
         std::process::exit(1);
     }
 }

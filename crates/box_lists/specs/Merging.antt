@@ -9,14 +9,20 @@ use Rattle.box_lists.specs.declared.Found.{Found}
 use Rattle.box_lists.specs.declared.Found.the-variants.{At, Nowhere}
 use Rattle.box_lists.specs.Lists.{boxAt, boxesFrom, Kept}
 
--- of n boxes no two are close, and none ends north of a later one
+-- of n boxes no two are close, none ends north of a later one, and each has a row
 pub record Spread (xs : List ℕ) (n : ℕ) : Type 0 where
   pub far : (i j : ℕ) → i < j → j < n → close (boxAt xs i) (boxAt xs j) ≡ false
   pub rising : (i j : ℕ) → i < j → j < n → boxAt xs i .high-row ≤ boxAt xs j .high-row
+  pub tall : (i : ℕ) → i < n → boxAt xs i .low-row ≤ boxAt xs i .high-row
 
 -- none of n boxes ends north of row r
 pub record Below (xs : List ℕ) (n r : ℕ) : Type 0 where
   pub below : (i : ℕ) → i < n → boxAt xs i .high-row ≤ r
+
+-- none of n boxes ends north of a, which has a row
+pub record Ends (xs : List ℕ) (n : ℕ) (a : Box) : Type 0 where
+  pub others : Below xs n (a .high-row)
+  pub tall : a .low-row ≤ a .high-row
 
 -- a box that is close to a stands there; or none of n is close
 pub record Finds (xs : List ℕ) (n : ℕ) (a : Box) (found : Found) : Type 0 where
