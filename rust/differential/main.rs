@@ -1,6 +1,6 @@
-//! The proved library against rust/plain_mesh.rs, rust/plain_boxes.rs, rust/plain_legs.rs and rust/plain_draw.rs on random requests: answers, every
-//! byte of an output or a record and beside it, and that maps, sends, hand-ins, letters and files are as they were. Prints counts; at the first
-//! difference it prints the case and exits with status 1. Each operation has a file of its own.
+//! The proved library against rust/plain_mesh.rs, rust/plain_boxes.rs, rust/plain_legs.rs and rust/plain_draw.rs on random requests: answers,
+//! every byte of an output or a record and beside it, and that maps, sends, hand-ins, letters and files are as they were. Prints counts; at the
+//! first difference it prints the case and exits with status 1. Each operation has a file of its own.
 //!   c/library && rustc -O rust/differential/main.rs -L target/staticlib -l static=pinduguil -o differential && ./differential
 mod batch;
 mod boxing;

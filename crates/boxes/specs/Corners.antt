@@ -9,6 +9,10 @@ use Rattle.boxes.specs.declared.Corners.{Corners}
 unfoldable pub boxFrom : Corners → Box
 boxFrom x = record { low-row = x .south .0; low-column = x .west .0; high-row = x .north .0; high-column = x .east .0 }
 
+-- a box of one row
+unfoldable pub rowBox : ℕ → ℕ → ℕ → Box
+rowBox r west east = record { low-row = r; low-column = west; high-row = r; high-column = east }
+
 -- a box with the k rows north of it
 unfoldable pub grown : ℕ → Box → Box
 grown k b = record { low-row = b .low-row; low-column = b .low-column; high-row = b .high-row + k; high-column = b .high-column }
