@@ -6,10 +6,12 @@ use Prim.Native.Nat.{ℕ, _+_, _*_, _/_, _%_, _≤_, _<_}
 use native.Mathlib.Omega.{arith}
 use borrow.Author.Tests.{lt-ltb, le-ltb, le-leb, lt-leb, ne-eqb}
 use lib.Dec.{ltb}
+use lib.ListN.{length}
 use Rattle.mesh.specs.Nodes.{isBad}
-use Rattle.mesh.specs.Maps.{allowed, badSize, badLength, misplacedAt}
-use Rattle.mesh.proofs.Maps.{good-size, good-length}
-use Rattle.mesh.proofs.Index.{place-of}
+use Rattle.mesh.specs.Tests.{first}
+use Rattle.mesh.specs.Maps.{allowed, badSize, badLength, misplacedAt, mapTests}
+use Rattle.mesh.proofs.Maps.{good-size, good-length, accepted}
+use Rattle.mesh.proofs.Index.{place-of, few-nodes}
 use Rattle.nodes.specs.Sized.{Sized}
 use Rattle.nodes.proofs.Lookup.{isBad-test}
 
@@ -46,3 +48,15 @@ module _ (columns rows i x : ℕ) where
 pub sized : (columns rows : ℕ) (map : List ℕ) → badSize columns ≡ false → badSize rows ≡ false → badLength columns rows map ≡ false →
     Sized columns rows map
 sized columns rows map a b d = record { few-columns = good-size columns a; few-rows = good-size rows b; size = good-length columns rows map d }
+
+-- what refusals 1 to 5 let pass
+module _ (columns rows : ℕ) (map : List ℕ) (clear : first (mapTests columns rows map) ≡ 0) where
+  pub clear-sized : Sized columns rows map
+  clear-sized =
+      let a = accepted clear in
+      record { few-columns = a .few-columns; few-rows = a .few-rows; size = a .size }
+
+  pub clear-few : length map ≤ 4096
+  clear-few =
+      let a = accepted clear in
+      omega (arith, a .size, few-nodes columns rows (a .few-columns) (a .few-rows))

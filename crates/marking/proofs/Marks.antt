@@ -20,32 +20,22 @@ use Rattle.mesh.specs.Rounds.{marked}
 use Rattle.mesh.specs.Blocks.{blocks}
 use Rattle.mesh.specs.Maps.{mapTests}
 use Rattle.mesh.specs.Marking.{markRefusal, MarksBlocks}
-use Rattle.mesh.proofs.Index.{few-nodes}
 use Rattle.mesh.proofs.Numbers.{number-some, answer-refused, written-refused}
 use Rattle.mesh.proofs.Tests.{told-refused, told-clear, clear-next}
 use Rattle.mesh.proofs.Maps.{map-numbered, accepted}
 use Rattle.theory_blocks.proofs.Rounds.{marked-length}
 use Rattle.theory_blocks.proofs.Theorems.{obstacles}
 use Rattle.nodes.specs.Sized.{Sized}
+use Rattle.maps.proofs.Checks.{clear-sized, clear-few}
 use Rattle.blocks.specs.Marking.{Marking}
 use Rattle.rounds.specs.Rounds.{Settles}
 use Rattle.marking.specs.Marks.{MarksMap}
 
 -- what refusals 1 to 5 let pass
 module _ (columns rows : ℕ) (map : List ℕ) (clear : first (mapTests columns rows map) ≡ 0) where
-  pub clear-sized : Sized columns rows map
-  clear-sized =
-      let a = accepted clear in
-      record { few-columns = a .few-columns; few-rows = a .few-rows; size = a .size }
-
-  pub clear-few : length map ≤ 4096
-  clear-few =
-      let a = accepted clear in
-      omega (arith, a .size, few-nodes columns rows (a .few-columns) (a .few-rows))
-
   marked-sized : Sized columns rows (marked (mesh columns rows map) .map)
   marked-sized =
-      let s = clear-sized in
+      let s = clear-sized columns rows map clear in
       record { few-columns = s .few-columns; few-rows = s .few-rows; size = marked-length (mesh columns rows map) ∙ s .size }
 
   -- the marking, and what stands beyond it

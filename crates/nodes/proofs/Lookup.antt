@@ -3,6 +3,7 @@ use mathlib.Core.Path.{_≡_, refl}
 use mathlib.Core.Bool.{Bool, false, not, and-false}
 use mathlib.Core.List.{List}
 use Prim.Native.Nat.{ℕ, zero, suc, _+_, _-_, _*_, _≤_, _<_}
+use native.Mathlib.Nat.{mul-le-mul-right}
 use native.Mathlib.Omega.{arith}
 use borrow.Author.Tests.{lt-ltb, le-ltb, le-leb, lt-leb}
 use lib.Dec.{eqb, eqb·suc-zero}
@@ -21,6 +22,14 @@ pub isBad-test : (x : ℕ) → not (eqb x 0) ≡ isBad x
 unfolding isBad
 isBad-test zero = refl
 isBad-test (suc x) = rw (eqb·suc-zero x)
+
+-- a row of a map
+pub row-fits : {columns rows r : ℕ} {map : List ℕ} → Sized columns rows map → r < rows →
+    (r * columns + columns ≤ length map) × (r * columns + columns ≤ 4096)
+row-fits {columns} {rows} {r} s h =
+    let below : (r + 1) * columns ≤ rows * columns = mul-le-mul-right columns (omega arith) in
+    let few = few-nodes columns rows (s .few-columns) (s .few-rows) in
+    (omega (arith, s .size), omega arith)
 
 module _ (columns rows : ℕ) (map : List ℕ) (r c : ℕ) where
   pub at-fits : OnMesh columns rows map r c → (r * columns + c < length map) × (r * columns + c < 4096)

@@ -2,23 +2,15 @@
 use mathlib.Core.Path.{_≡_, refl, _∙_}
 use mathlib.Core.List.{List}
 use Prim.Native.Nat.{ℕ, _+_, _-_, _*_, _≤_, _<_}
-use native.Mathlib.Nat.{mul-le-mul-right}
 use native.Mathlib.Decide.{decLt}
 use native.Mathlib.Omega.{arith}
 use lib.ListN.{length, getD, set, length-set}
 use lib.Seq.{getD-set-same, getD-set-other}
 use Rattle.mesh.specs.Mesh.{Mesh}
-use Rattle.mesh.proofs.Index.{few-nodes, index-within}
+use Rattle.mesh.proofs.Index.{index-within}
 use Rattle.nodes.specs.Sized.{Sized}
 use Rattle.nodes.specs.Rounds.{nodeAfter}
 use Rattle.rounds.specs.Rounds.{RowAfter, DueAfter, OthersSettled, Near, Spread, QuietSettled}
-
-pub row-fits : {columns rows r : ℕ} {map : List ℕ} → Sized columns rows map → r < rows →
-    (r * columns + columns ≤ length map) × (r * columns + columns ≤ 4096)
-row-fits {columns} {rows} {r} s h =
-    let below : (r + 1) * columns ≤ rows * columns = mul-le-mul-right columns (omega arith) in
-    let few = few-nodes columns rows (s .few-columns) (s .few-rows) in
-    (omega (arith, s .size), omega arith)
 
 -- A row of a round.
 pub row-none : (w : Mesh) (r : ℕ) (ys : List ℕ) → RowAfter w r 0 ys ys

@@ -6,6 +6,7 @@ pub mod Rectangles
 pub mod Rings
 pub mod Apart
 pub mod Connected
+pub mod Selected
 pub mod Listed
 pub mod Margins
 pub mod Near

@@ -1,81 +1,24 @@
 -- The list of blocks of a mesh whose marking no rule adds to: rectangles with free rings, which hold every bad node. Assumes nothing.
-use mathlib.Core.Path.{_≡_, refl}
-use mathlib.Core.Logic.{inl, inr}
+use mathlib.Core.Path.{_≡_}
 use mathlib.Core.Bool.{Bool, true}
-use mathlib.Core.List.{List·Memᴰ, List·Memᴰ·head, List·Memᴰ·tail, List·Memᴰ·not-nil, List·Memᴰ·cases-cons}
-use Prim.Native.Nat.{ℕ, zero, suc, _+_, _*_, _/_, _%_, _≤_, _<_}
-use native.Mathlib.Decide.{decLt}
+use Prim.Native.Nat.{ℕ, _+_, _*_, _/_, _%_, _≤_}
 use native.Mathlib.Omega.{arith}
 use borrow.Author.Tests.{not-true}
 use lib.ListN.{length}
 use Rattle.mesh.specs.Mesh.{Mesh}
 use Rattle.mesh.specs.Nodes.{bad, ahead}
-use Rattle.mesh.specs.Blocks.{Block, corner, blockAt, select, blocks}
-use Rattle.mesh.proofs.Bools.{value, and-both, or-none}
+use Rattle.mesh.specs.Blocks.{Block, corner, blockAt, blocks}
+use Rattle.mesh.proofs.Bools.{and-both, or-none}
 use Rattle.mesh.proofs.Index.{index-row, index-column, index-within, same-index}
 use Rattle.theory_blocks.specs.Marking.{Closed}
 use Rattle.theory_blocks.specs.Blocks.{Apart}
-use Rattle.theory_blocks.specs.Obstacles.{Listed, Walled, InBlock, Pairs, none, more}
+use Rattle.theory_blocks.specs.Obstacles.{Listed, Walled, InBlock, Pairs}
 use Rattle.theory_blocks.proofs.Rules.{column, before, Settled, settled}
 use Rattle.theory_blocks.proofs.Marking.{bad-on-mesh}
 use Rattle.theory_blocks.proofs.Lines.{before-begins, begins-before}
 use Rattle.theory_blocks.proofs.Rectangles.{Corner, walled, home}
 use Rattle.theory_blocks.proofs.Apart.{walled-apart}
-
--- What a list of selected values holds.
-module _ {A : Type 0} (t : ℕ → Bool) (f : ℕ → A) where
-  record Selected (i : ℕ) (a : A) : Type 0 where
-    pub index : ℕ
-    pub from : i ≤ index
-    pub test : t index ≡ true
-    pub is : a ≡ f index
-
-  mem-selected : (n i : ℕ) (a : A) → List·Memᴰ a (select t f n i) → Selected i a
-  unfolding select
-  mem-selected zero i a m = absurd (List·Memᴰ·not-nil m)
-  mem-selected (suc n) i a m =
-      elim (value (t i)) [
-        | inl e ↦
-            elim (List·Memᴰ·cases-cons (rw e at m))
-            [ inl q ↦ record { index = i; from = omega arith; test = e; is = q } | inr u ↦ later (mem-selected n (suc i) a u) ]
-        | inr e ↦ later (mem-selected n (suc i) a (rw e at m))
-      ]
-    where
-      later : Selected (suc i) a → Selected i a
-      later s = record { index = s .index; from = omega arith; test = s .test; is = s .is }
-
-  selected-mem : (n i j : ℕ) → i ≤ j → j < n + i → t j ≡ true → List·Memᴰ (f j) (select t f n i)
-  unfolding select
-  selected-mem zero i j p q e = absurd (omega arith)
-  selected-mem (suc n) i j p q e =
-      elim (decLt i j) [
-        | yes h ↦
-            let m = selected-mem n (suc i) j h (omega arith) e in
-            elim (value (t i)) [ inl u ↦ rw u (List·Memᴰ·tail m) | inr u ↦ rw u m ]
-        | no h ↦
-            let s : j ≡ i = omega arith in
-            rw (s, rw s at e) (List·Memᴰ·head refl)
-      ]
-
-  selected-pairs : (R : A → A → Type 0) → ((i j : ℕ) → i < j → t i ≡ true → t j ≡ true → R (f i) (f j)) → (n i : ℕ) → Pairs R (select t f n i)
-  unfolding select
-  selected-pairs R r zero i = none
-  selected-pairs R r (suc n) i =
-      elim (value (t i)) [
-        | inl e ↦
-            rw e
-            (more {a = f i}
-            (λ b m. let s = mem-selected n (suc i) b m in rw (s .is) (r i (s .index) (s .from) e (s .test)))
-            (selected-pairs R r n (suc i)))
-        | inr e ↦ rw e (selected-pairs R r n (suc i))
-      ]
-
-  select-few : (n i : ℕ) → length (select t f n i) ≤ n
-  unfolding select
-  select-few zero i = omega arith
-  select-few (suc n) i =
-      let few = select-few n (suc i) in
-      elim (value (t i)) [ inl e ↦ rw e (omega arith) | inr e ↦ rw e (omega arith) ]
+use Rattle.theory_blocks.proofs.Selected.{mem-selected, selected-mem, selected-pairs, select-few}
 
 module _ (B : ℕ → ℕ → Bool) (r c : ℕ) where
   corner-told : corner B r c ≡ true → Corner B r c

@@ -9,6 +9,7 @@ use Rattle.theory_blocks.proofs.Apart.{pairs-any}
 use Rattle.theory_boxes.specs.Boxes.{Box, close, closeTo, someClose}
 use Rattle.theory_boxes.proofs.Close.{close-swap}
 
+-- two boxes are not close
 pub record Far (a b : Box) : Type 0 where
   pub far : close a b ≡ false
 

@@ -1,3 +1,14 @@
 pub mod Close
 pub mod Orders
 pub mod Far
+pub mod Merging
+pub mod Gathering
+pub mod Covering
+pub mod Faults
+pub mod Blocks
+pub mod Sorting
+pub mod Sorted
+pub mod Room
+pub mod Filled
+pub mod Boxing
+pub mod Theorems

@@ -28,57 +28,34 @@ reordered-length (List·Permᴰ·trans p q) = reordered-length p ∙ reordered-l
 
 -- One replacement.
 
-pub replaced-pair : (a b : Box) (l : List Box) → close a b ≡ true → Replaced (a ∷ b ∷ l) (around a b ∷ l)
-replaced-pair a b l e =
-    record { first = a; second = b; others = l; before = Permᴰ·refl _; are-close = e; after = Permᴰ·refl _ }
+-- the same two boxes, among others
+same-pair : {l m k n : List Box} (p : Replaced l m) (others : List Box) → Reordered k (p .first ∷ p .second ∷ others) →
+    Reordered (around (p .first) (p .second) ∷ others) n → Replaced k n
+same-pair p others before after =
+    record { first = p .first; second = p .second; others = others; before = before; are-close = p .are-close; after = after }
 
 pub replaced-from : {l k m : List Box} → Reordered l k → Replaced k m → Replaced l m
-replaced-from r p =
-    record {
-      first = p .first;
-      second = p .second;
-      others = p .others;
-      before = List·Permᴰ·trans r (p .before);
-      are-close = p .are-close;
-      after = p .after;
-    }
+replaced-from r p = same-pair p (p .others) (List·Permᴰ·trans r (p .before)) (p .after)
 
 replaced-to : {l m n : List Box} → Replaced l m → Reordered m n → Replaced l n
-replaced-to p r =
-    record {
-      first = p .first;
-      second = p .second;
-      others = p .others;
-      before = p .before;
-      are-close = p .are-close;
-      after = List·Permᴰ·trans (p .after) r;
-    }
+replaced-to p r = same-pair p (p .others) (p .before) (List·Permᴰ·trans (p .after) r)
 
--- one box stands before the others
+-- one box stands before them
 pub replaced-behind : (a : Box) {l m : List Box} → Replaced l m → Replaced (a ∷ l) (a ∷ m)
 replaced-behind a p =
-    record {
-      first = p .first;
-      second = p .second;
-      others = a ∷ p .others;
-      before =
-          List·Permᴰ·trans (List·Permᴰ·cons refl (p .before))
-          (List·Permᴰ·trans (List·Permᴰ·swap refl refl) (List·Permᴰ·cons refl (List·Permᴰ·swap refl refl)));
-      are-close = p .are-close;
-      after = List·Permᴰ·trans (List·Permᴰ·swap refl refl) (List·Permᴰ·cons refl (p .after));
-    }
+    same-pair p (a ∷ p .others)
+    (List·Permᴰ·trans (List·Permᴰ·cons refl (p .before))
+    (List·Permᴰ·trans (List·Permᴰ·swap refl refl) (List·Permᴰ·cons refl (List·Permᴰ·swap refl refl))))
+    (List·Permᴰ·trans (List·Permᴰ·swap refl refl) (List·Permᴰ·cons refl (p .after)))
 
 -- some stand after them
 replaced-beside : (r : List Box) {l m : List Box} → Replaced l m → Replaced (l ++ r) (m ++ r)
 replaced-beside r p =
-    record {
-      first = p .first;
-      second = p .second;
-      others = p .others ++ r;
-      before = Permᴰ·append-right r (p .before);
-      are-close = p .are-close;
-      after = Permᴰ·append-right r (p .after);
-    }
+    same-pair p (p .others ++ r) (Permᴰ·append-right r (p .before)) (Permᴰ·append-right r (p .after))
+
+pub replaced-pair : (a b : Box) (l : List Box) → close a b ≡ true → Replaced (a ∷ b ∷ l) (around a b ∷ l)
+replaced-pair a b l e =
+    record { first = a; second = b; others = l; before = Permᴰ·refl _; are-close = e; after = Permᴰ·refl _ }
 
 -- a shorter list
 pub replaced-shorter : {l m : List Box} → Replaced l m → length l ≡ suc (length m)

@@ -5,7 +5,8 @@ use native.Mathlib.Omega.{arith}
 use lib.Seq.{length-take-le}
 use lib.ListN.{length}
 use Rattle.mesh.proofs.Tests.{told-clear}
-use Rattle.marking.proofs.Marks.{map-refused, clear-sized, room-refused, front, front-sized, marks-done}
+use Rattle.maps.proofs.Checks.{clear-sized}
+use Rattle.marking.proofs.Marks.{map-refused, room-refused, front, front-sized, marks-done}
 use Rattle.marking.proofs.mark_blocks.Statement.{statement}
 use Rattle.marking.proofs.mark_blocks.Tie as tie
 

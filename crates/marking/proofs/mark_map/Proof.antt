@@ -4,7 +4,8 @@ use mathlib.Core.Path.{sym}
 use native.Mathlib.Omega.{arith}
 use lib.Seq.{length-take-le}
 use Rattle.mesh.proofs.Tests.{told-clear}
-use Rattle.marking.proofs.Marks.{clear-sized, clear-few, map-not-marked, map-marked}
+use Rattle.maps.proofs.Checks.{clear-sized, clear-few}
+use Rattle.marking.proofs.Marks.{map-not-marked, map-marked}
 use Rattle.marking.proofs.mark_map.Statement.{statement}
 use Rattle.marking.proofs.mark_map.Tie as tie
 

@@ -2,7 +2,7 @@
 use borrow.Author.Needs.{needs}
 use mathlib.Core.Path.{refl}
 use native.Mathlib.Omega.{arith}
-use Rattle.rounds.proofs.Rows.{row-fits}
+use Rattle.nodes.proofs.Lookup.{row-fits}
 use Rattle.rounds.proofs.copy_row.Statement.{statement}
 use Rattle.rounds.proofs.copy_row.Tie as tie
 

@@ -6,7 +6,8 @@ use native.Mathlib.Omega.{arith}
 use Rattle.mesh.specs.Mesh.{mesh, Mesh}
 use Rattle.nodes.proofs.Lookup.{at-fits}
 use Rattle.rounds.specs.Rounds.{RowAfter}
-use Rattle.rounds.proofs.Rows.{row-fits, row-none, row-more}
+use Rattle.nodes.proofs.Lookup.{row-fits}
+use Rattle.rounds.proofs.Rows.{row-none, row-more}
 use Rattle.rounds.proofs.round_row.Statement.{statement}
 use Rattle.rounds.proofs.round_row.Tie as tie
 
