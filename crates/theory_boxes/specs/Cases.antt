@@ -29,7 +29,7 @@ allHold [] = true
 allHold (x ∷ xs) = holds x && allHold xs
 
 -- No fault. The starred maps of document 01: A, C, and those of one block of 3 nodes, one of 6, and two blocks. Boxes that are close only when others
--- have been merged; three boxes, of which one is tall. What is refused: a list that is one number short, and what comes before that.
+-- have been merged; two that begin in the same row, and three. What is refused: a list that is one number short, and what comes before that.
 unfoldable pub worked : List Case
 worked =
     lists [] [] ∷
@@ -39,8 +39,8 @@ worked =
     lists ((2, 4) ∷ (3, 6) ∷ []) (2 ∷ 4 ∷ 3 ∷ 6 ∷ 0 ∷ 0 ∷ 0 ∷ 0 ∷ []) ∷
     lists ((2, 4) ∷ (4, 4) ∷ []) (2 ∷ 4 ∷ 2 ∷ 4 ∷ 4 ∷ 4 ∷ 4 ∷ 4 ∷ []) ∷
     lists ((1, 2) ∷ (4, 2) ∷ (3, 4) ∷ (2, 6) ∷ []) (1 ∷ 2 ∷ 4 ∷ 6 ∷ 0 ∷ 0 ∷ 0 ∷ 0 ∷ 0 ∷ 0 ∷ 0 ∷ 0 ∷ 0 ∷ 0 ∷ 0 ∷ 0 ∷ []) ∷
-    lists ((1, 7) ∷ (2, 7) ∷ (3, 7) ∷ (2, 2) ∷ (1, 4) ∷ (5, 3) ∷ [])
-    (1 ∷ 2 ∷ 2 ∷ 4 ∷ 1 ∷ 7 ∷ 3 ∷ 7 ∷ 5 ∷ 3 ∷ 5 ∷ 3 ∷ 0 ∷ 0 ∷ 0 ∷ 0 ∷ 0 ∷ 0 ∷ 0 ∷ 0 ∷ 0 ∷ 0 ∷ 0 ∷ 0 ∷ []) ∷
+    lists ((1, 7) ∷ (2, 7) ∷ (2, 2) ∷ (1, 4) ∷ []) (1 ∷ 2 ∷ 2 ∷ 4 ∷ 1 ∷ 7 ∷ 2 ∷ 7 ∷ 0 ∷ 0 ∷ 0 ∷ 0 ∷ 0 ∷ 0 ∷ 0 ∷ 0 ∷ []) ∷
+    lists ((1, 2) ∷ (1, 5) ∷ (2, 2) ∷ (5, 3) ∷ []) (1 ∷ 2 ∷ 2 ∷ 2 ∷ 1 ∷ 5 ∷ 1 ∷ 5 ∷ 5 ∷ 3 ∷ 5 ∷ 3 ∷ 0 ∷ 0 ∷ 0 ∷ 0 ∷ []) ∷
     answers 10 [] 0 0 ∷
     answers 10 ((3, 4) ∷ (4, 5) ∷ []) 8 0 ∷
     answers 10 ((3, 4) ∷ (4, 5) ∷ []) 7 10 ∷
