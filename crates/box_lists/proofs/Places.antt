@@ -47,7 +47,8 @@ boxes-more xs i (suc n) =
     let d : suc n + i ≡ n + suc i = omega arith in
     rw (e, d) (ap (λ l. boxAt xs i ∷ l) (boxes-more xs (suc i) n))
 
-far-to : (xs : List ℕ) (a : Box) (i n : ℕ) → ((j : ℕ) → i ≤ j → j < n + i → close a (boxAt xs j) ≡ false) → closeTo a (boxesFrom xs i n) ≡ false
+far-to : (xs : List ℕ) (a : Box) (i n : ℕ) → ((j : ℕ) → i ≤ j → j < n + i → close a (boxAt xs j) ≡ false) →
+    closeTo a (boxesFrom xs i n) ≡ false
 unfolding boxesFrom closeTo
 far-to xs a i zero f = refl
 far-to xs a i (suc n) f = rw (f i (omega arith) (omega arith)) (far-to xs a (suc i) n (λ j p q. f j (omega arith) (omega arith)))

@@ -1,19 +1,16 @@
 -- The refusals in their order, and where none applies what stands in the list. Assumes nothing.
 use mathlib.Core.Path.{_≡_, refl, ap, sym, _∙_}
-use mathlib.Core.Bool.{cond}
-use mathlib.Core.List.{List, [], _∷_, append-nil}
+use mathlib.Core.List.{List, append-nil}
 use Prim.Native.Nat.{ℕ, zero, suc, _+_, _*_, _≤_, _<_}
-use native.Mathlib.Nat.{sub-zero, zero-add}
+use native.Mathlib.Nat.{sub-zero}
 use native.Mathlib.Omega.{arith}
-use borrow.Author.Tests.{lt-ltb}
-use lib.Dec.{ltb}
 use lib.ListN.{length, getD}
 use Rattle.mesh.specs.declared.Refusal.{Refusal}
 use Rattle.mesh.specs.declared.Refusal.the-variants.{Room as NoRoom}
 use Rattle.mesh.specs.declared.Checked.{Checked}
 use Rattle.mesh.specs.declared.Checked.the-variants as checks
 use Rattle.mesh.specs.Mesh.{Mesh, mesh}
-use Rattle.mesh.specs.Tests.{_gives_, Test, first}
+use Rattle.mesh.specs.Tests.{first}
 use Rattle.mesh.specs.Numbers.{number, checkedNumber}
 use Rattle.mesh.specs.Nodes.{howMany}
 use Rattle.mesh.specs.Maps.{mapTests}
@@ -23,12 +20,12 @@ use Rattle.mesh.proofs.Maps.{accepted}
 use Rattle.mesh.proofs.Counts.{howMany-le}
 use Rattle.maps.proofs.Checks.{clear-few}
 use Rattle.theory_boxes.specs.declared.Boxed.the-variants.{Boxes, Refused}
-use Rattle.theory_boxes.specs.Boxes.{faultBoxes, sorted, boxes}
+use Rattle.theory_boxes.specs.Boxes.{faultBoxes, boxes}
 use Rattle.theory_boxes.specs.Merging.{Merges}
 use Rattle.theory_boxes.specs.Boxing.{numbers, roomFor, boxRefusal, ListsBoxes}
 use Rattle.theory_boxes.proofs.Orders.{merges-shorter}
 use Rattle.theory_boxes.proofs.Theorems.{any-order, faults-are-boxes, refusal-10}
-use Rattle.theory_boxes.proofs.Filled.{filled, filled-is}
+use Rattle.theory_boxes.proofs.Filled.{filled-is}
 use Rattle.theory_boxes.proofs.Room.{numbers-length}
 use Rattle.theory_boxes.proofs.Boxing.{lists-boxes}
 use Rattle.box_lists.specs.Lists.{boxAt, boxesFrom, Room}

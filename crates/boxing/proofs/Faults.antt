@@ -1,9 +1,9 @@
 -- The boxes of the faults from an index of the map on. Assumes nothing.
-use mathlib.Core.Path.{_≡_, refl, _∙_}
+use mathlib.Core.Path.{_≡_, _∙_}
 use mathlib.Core.Bool.{true, false, cond}
 use mathlib.Core.List.{[], _∷_}
 use Prim.Native.Nat.{ℕ, zero, suc, _+_, _-_, _/_, _%_, _≤_, _<_}
-use native.Mathlib.Nat.{add-zero, sub-zero}
+use native.Mathlib.Nat.{sub-zero}
 use native.Mathlib.Numerals.{add-one}
 use native.Mathlib.Omega.{arith}
 use lib.ListN.{length, getD}
@@ -23,7 +23,8 @@ module _ (w : Mesh) where
   from-end i h = let e : length (w .map) - i ≡ 0 = omega arith in rw e
 
   module _ (i : ℕ) (h : i < length (w .map)) where
-    from-here : faultsFrom w i ≡ cond (isBad (getD (w .map) i 0)) (nodeBox (i / w .columns) (i % w .columns) ∷ faultsFrom w (i + 1)) (faultsFrom w (i + 1))
+    from-here : faultsFrom w i ≡
+        cond (isBad (getD (w .map) i 0)) (nodeBox (i / w .columns) (i % w .columns) ∷ faultsFrom w (i + 1)) (faultsFrom w (i + 1))
     unfolding faultsFrom select
     from-here = let e : length (w .map) - i ≡ suc (length (w .map) - suc i) = omega arith in rw (e, add-one i)
 
@@ -34,7 +35,8 @@ module _ (w : Mesh) where
     from-sound e = from-here ∙ rw e
 
   -- sound nodes are passed over
-  pub from-later : (k i : ℕ) → k + i ≤ length (w .map) → ((j : ℕ) → i ≤ j → j < k + i → isBad (getD (w .map) j 0) ≡ false) → faultsFrom w i ≡ faultsFrom w (k + i)
+  pub from-later : (k i : ℕ) → k + i ≤ length (w .map) → ((j : ℕ) → i ≤ j → j < k + i → isBad (getD (w .map) j 0) ≡ false) →
+      faultsFrom w i ≡ faultsFrom w (k + i)
   from-later zero i h f = let e : 0 + i ≡ i = omega arith in rw e
   from-later (suc k) i h f =
       let e : suc k + i ≡ k + (i + 1) = omega arith in

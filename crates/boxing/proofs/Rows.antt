@@ -1,5 +1,5 @@
 -- Faults of a row that are close are merged to one box. Assumes nothing.
-use mathlib.Core.Path.{_≡_, refl, _∙_}
+use mathlib.Core.Path.{_≡_, _∙_}
 use mathlib.Core.Bool.{true}
 use mathlib.Core.List.{List, _∷_, Permᴰ·refl}
 use Prim.Native.Nat.{ℕ, _+_, _-_, _*_, _/_, _%_, _≤_, _<_}
@@ -10,7 +10,7 @@ use Rattle.mesh.specs.Nodes.{isBad}
 use Rattle.mesh.proofs.Index.{index-row, index-column}
 use Rattle.nodes.specs.Sized.{Sized}
 use Rattle.nodes.proofs.Lookup.{row-fits}
-use Rattle.theory_boxes.specs.Boxes.{Box, nodeBox, close, around}
+use Rattle.theory_boxes.specs.Boxes.{nodeBox, close, around}
 use Rattle.theory_boxes.specs.Merging.{Merges, begin}
 use Rattle.theory_boxes.proofs.Close.{close-true, box-ext}
 use Rattle.theory_boxes.proofs.Orders.{merges-trans, merges-pair}
@@ -56,7 +56,9 @@ module _ (columns rows : ℕ) (map : List ℕ) (sized : Sized columns rows map) 
       faultsFrom (mesh columns rows map) (i + 1) ≡ rowBox r (k - start) (k - start) ∷ faultsFrom (mesh columns rows map) (k + 1)
   fault-next i k p n =
       let e : k - (i + 1) + (i + 1) ≡ k = omega (arith, n .later) in
-      let skip = from-later (mesh columns rows map) (k - (i + 1)) (i + 1) (omega (arith, n .inside, row-ends)) (λ j a b. n .none-between j (omega arith) (omega arith)) in
+      let skip =
+      from-later (mesh columns rows map) (k - (i + 1)) (i + 1) (omega (arith, n .inside, row-ends))
+      (λ j a b. n .none-between j (omega arith) (omega arith)) in
       rw e at skip ∙ fault-here k (omega (arith, n .later)) (n .inside) (n .fault)
 
   -- from the first to the last

@@ -1,6 +1,6 @@
 -- What a step of merging does with the list, and one step after another. Assumes nothing.
 use mathlib.Core.Path.{_≡_, refl, sym, _∙_}
-use mathlib.Core.Bool.{true, false}
+use mathlib.Core.Bool.{true}
 use mathlib.Core.List.{List, [], _∷_, _++_, List·Permᴰ·cons, List·Permᴰ·trans, Permᴰ·refl, Permᴰ·symm, Permᴰ·middle, Permᴰ·append-nil}
 use Prim.Native.Nat.{ℕ, _+_, _-_, _*_, _≤_, _<_}
 use native.Mathlib.Omega.{arith}
@@ -11,17 +11,19 @@ use Rattle.mesh.specs.Nodes.{isBad}
 use Rattle.nodes.specs.Sized.{Sized}
 use Rattle.nodes.proofs.Lookup.{isBad-test, row-fits}
 use Rattle.theory_boxes.specs.Boxes.{Box}
-use Rattle.theory_boxes.specs.Merging.{Reordered, Merges, begin}
-use Rattle.theory_boxes.proofs.Orders.{merges-trans, merges-from, merges-to, merges-beside, merges-shorter}
+use Rattle.theory_boxes.specs.Merging.{Reordered, begin}
+use Rattle.theory_boxes.proofs.Orders.{merges-trans, merges-from, merges-beside, merges-shorter}
 use Rattle.faults.specs.Groups.{Group}
+use Rattle.faults.proofs.Groups.{group-inside}
 use Rattle.boxes.specs.Corners.{rowBox}
-use Rattle.box_lists.specs.Lists.{boxesFrom, Room, Kept}
+use Rattle.box_lists.specs.Lists.{boxesFrom, Room}
 use Rattle.box_lists.specs.Merging.{Spread, Below, Ends, TakesIn}
 use Rattle.box_lists.proofs.Lists.{kept-all, kept-both, kept-later, room-kept}
 use Rattle.box_lists.proofs.Places.{length-boxes}
-use Rattle.boxing.specs.Steps.{OnRow, faultsFrom, Ready, Advances}
+use Rattle.boxing.specs.Steps.{OnRow, faultsFrom, Ready, Advances, LooksAt, MergesRow}
+use Rattle.boxing.specs.declared.Step.{Step}
 use Rattle.boxing.proofs.Faults.{from-fault, from-sound}
-use Rattle.boxing.proofs.Rows.{group-merges}
+use Rattle.boxing.proofs.Rows.{group-from, group-merges}
 
 append-order : (l m : List Box) → Reordered (l ++ m) (m ++ l)
 append-order [] m = Permᴰ·symm (Permᴰ·append-nil m)
@@ -39,7 +41,9 @@ module _ {w : Mesh} {r : ℕ} {xs : List ℕ} {i n : ℕ} where
     -- there are no more boxes and faults than there were
     fewer : k + length (faultsFrom w j) ≤ n + length (faultsFrom w i)
     fewer =
-        omega (arith, merges-shorter (a .merges), length-append (boxesFrom ys 0 k) (faultsFrom w j), length-append (boxesFrom xs 0 n) (faultsFrom w i), length-boxes ys 0 k, length-boxes xs 0 n)
+        let after = length-append (boxesFrom ys 0 k) (faultsFrom w j) in
+        let before = length-append (boxesFrom xs 0 n) (faultsFrom w i) in
+        omega (arith, merges-shorter (a .merges), after, before, length-boxes ys 0 k, length-boxes xs 0 n)
 
     -- the next step, in the same row or a later one
     pub advances-ready : {s : ℕ} → r ≤ s → Room xs (n + length (faultsFrom w i)) → Ready w s ys j k
@@ -78,10 +82,13 @@ module _ {columns rows : ℕ} {map : List ℕ} {r i : ℕ} (on : OnRow columns r
 
   module _ {xs : List ℕ} {n : ℕ} (a : Ready w r xs i n) where
     -- it is sound
-    pub advances-sound : getD map i 0 ≡ 0 → Advances w r xs i n (i + 1) n xs
+    advances-sound : getD map i 0 ≡ 0 → Advances w r xs i n (i + 1) n xs
     unfolding isBad
     advances-sound e =
         record { merges = rw (from-sound w i inside (rw e)) (begin (Permᴰ·refl _)); spread = a .spread; below = a .below; beyond = kept-all xs _ }
+
+    pub looks-sound : getD map i 0 ≡ 0 → LooksAt w r xs i n (record { boxes = n; next = i + 1 }) xs
+    looks-sound e = record { done = advances-sound e; onward = omega arith; within = omega (arith, on .below) }
 
     -- it is faulty: the box round it and those after it that are close is merged with the others
     module _ (faulty : getD map i 0 ≡ 0 → ⊥) where
@@ -96,7 +103,7 @@ module _ {columns rows : ℕ} {map : List ℕ} {r i : ℕ} (on : OnRow columns r
         unfolding rowBox
         fault-ready = (record { room = omega (arith, a .room .room, some) }, a .spread, rw eb (record { others = a .below; tall = omega arith }))
 
-        pub advances-fault : {k : ℕ} {ys : List ℕ} → TakesIn xs n b k ys → Advances w r xs i n (last + 1) k ys
+        advances-fault : {k : ℕ} {ys : List ℕ} → TakesIn xs n b k ys → Advances w r xs i n (last + 1) k ys
         unfolding rowBox
         advances-fault t =
             record {
@@ -109,6 +116,9 @@ module _ {columns rows : ℕ} {map : List ℕ} {r i : ℕ} (on : OnRow columns r
               below = rw eb at (t .below);
               beyond = kept-later (omega (arith, some)) (t .beyond);
             }
+
+        pub looks-fault : {k : ℕ} {ys : List ℕ} → TakesIn xs n b k ys → LooksAt w r xs i n (record { boxes = k; next = last + 1 }) ys
+        looks-fault t = record { done = advances-fault t; onward = omega (arith, group-from g); within = omega (arith, group-inside g) }
 
 -- Of a row the nodes before index i are looked at.
 pub record Along (columns rows : ℕ) (map : List ℕ) (r : ℕ) (xs : List ℕ) (n end i k : ℕ) (ys : List ℕ) : Type 0 where
@@ -126,12 +136,16 @@ module _ {columns rows : ℕ} {map : List ℕ} {r : ℕ} {xs : List ℕ} {n : �
     along-ready s on h =
         (record { sized = s; row = on; from = a .from; below = omega (arith, a .ends) }, advances-ready (a .done) (omega arith) (ready .room))
 
-    pub along-more : {j m : ℕ} {zs : List ℕ} → Advances (mesh columns rows map) r ys i k j m zs × (i < j) × (j ≤ r * columns + columns) →
-        Along columns rows map r xs n end j m zs
-    along-more (b, p, q) =
-        record { ends = a .ends; from = omega (arith, a .from); within = omega (arith, a .ends); done = advances-both (a .done) b }
+    pub along-more : {x : Step} {zs : List ℕ} → LooksAt (mesh columns rows map) r ys i k x zs → Along columns rows map r xs n end (x .next) (x .boxes) zs
+    along-more b =
+        record {
+          ends = a .ends;
+          from = omega (arith, a .from, b .onward);
+          within = omega (arith, a .ends, b .within);
+          done = advances-both (a .done) (b .done);
+        }
 
-    pub along-all : end ≤ i → Advances (mesh columns rows map) r xs (r * columns) n (r * columns + columns) k ys
+    pub along-all : end ≤ i → MergesRow (mesh columns rows map) r xs n k ys
     along-all h = let e : i ≡ r * columns + columns = omega (arith, a .within, a .ends) in rw e at (a .done)
 
 -- Row by row: the rows before row r are looked at.
@@ -147,7 +161,7 @@ module _ {columns rows : ℕ} {map : List ℕ} {xs : List ℕ} (ready : Ready (m
     pub row-ready : Ready (mesh columns rows map) r ys (r * columns) n
     row-ready = advances-ready (a .done) (omega arith) (ready .room)
 
-    pub rows-more : {k : ℕ} {zs : List ℕ} → r < rows → Advances (mesh columns rows map) r ys (r * columns) n (r * columns + columns) k zs →
+    pub rows-more : {k : ℕ} {zs : List ℕ} → r < rows → MergesRow (mesh columns rows map) r ys n k zs →
         Rowwise (mesh columns rows map) rows xs (r + 1) k zs
     rows-more h b =
         let e : (r + 1) * columns ≡ r * columns + columns = omega arith in

@@ -11,6 +11,7 @@ use Rattle.theory_boxes.specs.Boxes.{Box, nodeBox}
 use Rattle.theory_boxes.specs.Merging.{Merges}
 use Rattle.box_lists.specs.Lists.{boxesFrom, Room, Kept}
 use Rattle.box_lists.specs.Merging.{Spread, Below}
+use Rattle.boxing.specs.declared.Step.{Step}
 
 -- index i of a map lies in row r
 pub record OnRow (columns rows : ℕ) (map : List ℕ) (r i : ℕ) : Type 0 where
@@ -35,6 +36,16 @@ pub record Advances (w : Mesh) (r : ℕ) (xs : List ℕ) (i n j k : ℕ) (ys : L
   pub spread : Spread ys k
   pub below : Below ys k r
   pub beyond : Kept xs (4 * (n + length (faultsFrom w i))) ys
+
+-- node i of row r is looked at, and perhaps some after it: x says where to go on, and how many boxes there are
+pub record LooksAt (w : Mesh) (r : ℕ) (xs : List ℕ) (i n : ℕ) (x : Step) (ys : List ℕ) : Type 0 where
+  pub done : Advances w r xs i n (x .next) (x .boxes) ys
+  pub onward : i < x .next
+  pub within : x .next ≤ r * w .columns + w .columns
+
+-- all nodes of row r are
+abbrev pub MergesRow : Mesh → ℕ → List ℕ → ℕ → ℕ → List ℕ → Type 0
+MergesRow w r xs n k ys = Advances w r xs (r * w .columns) n (r * w .columns + w .columns) k ys
 
 -- the numbers from index i to before index k are 0, the others as they were
 pub record Cleared (xs : List ℕ) (i k : ℕ) (ys : List ℕ) : Type 0 where

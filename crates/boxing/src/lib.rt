@@ -1,10 +1,10 @@
 // Blocks from rectangles (document 02, E10): boxes round the faults, merged where they are close.
-ghost use Prim.Native.Nat.{_+_, _*_, _≤_, _<_};
+ghost use Prim.Native.Nat.{_*_, _≤_, _<_};
 ghost use lib.ListN.{length};
 ghost use Rattle.mesh.specs.Mesh.{mesh};
 ghost use Rattle.nodes.specs.Sized.{Sized};
 ghost use Rattle.theory_boxes.specs.Boxing.{ListsBoxes};
-ghost use Rattle.boxing.specs.Steps.{OnRow, Ready, Advances, Cleared};
+ghost use Rattle.boxing.specs.Steps.{OnRow, Ready, Advances, LooksAt, MergesRow, Cleared};
 use box_lists::merge;
 use box_lists::sort;
 use boxes::row_box;
@@ -24,9 +24,17 @@ pub struct Step {
 }
 
 // Looks at node i of a row: merges the box of its fault, and of those after it that are close, with the n boxes of the list.
-fn merge_node(columns: u32, rows: u32, map: &[u8], list: &mut [u32], r: Row, i: usize, n: usize) -> Step
+fn merge_node(
+    columns: u32,
+    rows: u32,
+    map: &[u8],
+    list: &mut [u32],
+    r: Row,
+    i: usize,
+    n: usize,
+) -> Step
     requires { ⌜ OnRow columns rows (now map) (r .0) i × Ready (mesh columns rows (now map)) (r .0) (now list) i n ⌝ }
-    ensures { λ x. ⌜ Advances (mesh columns rows (now (map .entry))) (r .0) (now (list .entry)) i n (x .next) (x .boxes) (now (list .exit)) × (i < x .next) × (x .next ≤ r .0 * columns + columns) ⌝ }
+    ensures { λ x. ⌜ LooksAt (mesh columns rows (now (map .entry))) (r .0) (now (list .entry)) i n x (now (list .exit)) ⌝ }
 {
     if map[i] == 0 {
         return Step {
@@ -48,7 +56,7 @@ fn merge_node(columns: u32, rows: u32, map: &[u8], list: &mut [u32], r: Row, i: 
 // Merges the faults of a row with the n boxes of the list, and answers how many there are then.
 fn merge_row(columns: u32, rows: u32, map: &[u8], list: &mut [u32], r: Row, n: usize) -> usize
     requires { ⌜ Sized columns rows (now map) × (r .0 < rows) × Ready (mesh columns rows (now map)) (r .0) (now list) (r .0 * columns) n ⌝ }
-    ensures { λ k. ⌜ Advances (mesh columns rows (now (map .entry))) (r .0) (now (list .entry)) (r .0 * columns) n (r .0 * columns + columns) k (now (list .exit)) ⌝ }
+    ensures { λ k. ⌜ MergesRow (mesh columns rows (now (map .entry))) (r .0) (now (list .entry)) n k (now (list .exit)) ⌝ }
 {
     let mut i = (r.0 * columns) as usize;
     let end = i + columns as usize;

@@ -7,6 +7,6 @@ use Rattle.theory_boxes.specs.declared.Boxed.{Boxed}
 use Rattle.theory_boxes.specs.Boxing.{boxedAnswer, ListsBoxes}
 use Rattle.c_boxing.specs.Numbers.{BoxesInNumbers}
 
-pub lists : {columns rows x : ℕ} {map list list′ : List ℕ} {r : Boxed} → ListsBoxes columns rows map list r list′ → x ≡ answerCode (boxedAnswer r) →
-    BoxesInNumbers columns rows map list x list′
+pub lists : {columns rows x : ℕ} {map list list′ : List ℕ} {r : Boxed} → ListsBoxes columns rows map list r list′ →
+    x ≡ answerCode (boxedAnswer r) → BoxesInNumbers columns rows map list x list′
 lists d e = record { answers = e ∙ ap answerCode (d .answers); writes = d .writes }

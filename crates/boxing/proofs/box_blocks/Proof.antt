@@ -58,7 +58,8 @@ mul-clear c =
     let counted = fits .before in
     let told = counted .before in
     let clear = told-clear _ (told .enum-told .given .1) (told .before .before .check-map .ensures) in
-    omega (arith, few _ _ _ clear (counted .count-faults .ensures), fewer _ _ _ _ clear (counted .count-faults .ensures) (fits .if1 .left) (merged .merge-faults .ensures))
+    let count = counted .count-faults .ensures in
+    omega (arith, few _ _ _ clear count, fewer _ _ _ _ clear count (fits .if1 .left) (merged .merge-faults .ensures))
 
 mul-clear-2 : tie.Need-mul-clear-2
 mul-clear-2 c = search needs
@@ -80,7 +81,8 @@ cast-t20 c =
     let counted = fits .before in
     let told = counted .before in
     let clear = told-clear _ (told .enum-told .given .1) (told .before .before .check-map .ensures) in
-    omega (arith, few _ _ _ clear (counted .count-faults .ensures), fewer _ _ _ _ clear (counted .count-faults .ensures) (fits .if1 .left) (merged .merge-faults .ensures))
+    let count = counted .count-faults .ensures in
+    omega (arith, few _ _ _ clear count, fewer _ _ _ _ clear count (fits .if1 .left) (merged .merge-faults .ensures))
 
 same-length : tie.Need-same-length
 same-length c = search needs

@@ -16,7 +16,7 @@ loop-holds : tie.Need-loop-holds Inv-loop μ-loop
 loop-holds c = rows-none (c .before .before .pre .1)
 
 merge-row-requires : tie.Need-merge-row-requires Inv-loop μ-loop
-merge-row-requires c κs = 
+merge-row-requires c κs =
     let in-loop = c .before in
     let at-loop = in-loop .before in
     let pre = at-loop .before .before .before .pre in
@@ -29,7 +29,7 @@ loop-less : tie.Need-loop-less Inv-loop μ-loop
 loop-less c = let in-loop = c .before .before .before .before in omega (arith, in-loop .loop-test .taken)
 
 loop-again : tie.Need-loop-again Inv-loop μ-loop
-loop-again c = 
+loop-again c =
     let merged = c .before .before in
     let in-loop = merged .before .before in
     let at-loop = in-loop .before in
@@ -39,7 +39,7 @@ same-length : tie.Need-same-length Inv-loop μ-loop
 same-length c = c .before .loop .inv .done .beyond .size
 
 returns : tie.Need-returns Inv-loop μ-loop
-returns c = 
+returns c =
     let at-loop = c .before in
     let pre = at-loop .before .before .before .pre in
     rows-all (pre .1) (at-loop .loop .inv) (pre .0) (c .loop-test .left)

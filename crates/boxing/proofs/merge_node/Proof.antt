@@ -2,7 +2,7 @@
 use native.Mathlib.Omega.{arith}
 use Rattle.faults.proofs.Groups.{group-inside}
 use Rattle.boxing.proofs.Rows.{group-from}
-use Rattle.boxing.proofs.Steps.{row-end, row-few, advances-sound, fault-ready, advances-fault}
+use Rattle.boxing.proofs.Steps.{row-end, row-few, looks-sound, fault-ready, looks-fault}
 use borrow.Author.Needs.{needs}
 use Rattle.boxing.proofs.merge_node.Statement.{statement}
 use Rattle.boxing.proofs.merge_node.Tie as tie
@@ -14,9 +14,9 @@ add-t16 : tie.Need-add-t16
 add-t16 c = let on = c .before .before .before .before .pre .0 in omega (arith, on .below, row-few on)
 
 returns : tie.Need-returns
-returns c = 
+returns c =
     let (on, ready) = c .before .before .before .before .pre in
-    (advances-sound on ready (c .if1 .taken), omega arith, omega (arith, on .below))
+    looks-sound on ready (c .if1 .taken)
 
 mul-start : tie.Need-mul-start
 mul-start c = let on = c .before .before .before .before .before .pre .0 in omega (arith, row-few on)
@@ -37,12 +37,12 @@ cast-t17 : tie.Need-cast-t17
 cast-t17 c = search needs
 
 sub-t19 : tie.Need-sub-t19
-sub-t19 c = 
+sub-t19 c =
     let on = c .before .before .before .before .before .before .pre .0 in
     omega (arith, on .from, group-from (c .group-end .ensures))
 
 cast-t17-2 : tie.Need-cast-t17-2
-cast-t17-2 c = 
+cast-t17-2 c =
     let on = c .before .before .before .before .before .before .pre .0 in
     omega (arith, row-few on, group-inside (c .group-end .ensures))
 
@@ -50,14 +50,14 @@ row-box-requires : tie.Need-row-box-requires
 row-box-requires c κs = search needs
 
 merge-requires : tie.Need-merge-requires
-merge-requires c κs = 
+merge-requires c κs =
     let grouped = c .before .before in
     let at-fault = grouped .before .before in
     let (on, ready) = at-fault .before .before .before .before .pre in
     fault-ready on ready (at-fault .if1 .left) (grouped .group-end .ensures) (c .row-box .ensures)
 
 add-t18 : tie.Need-add-t18
-add-t18 c = 
+add-t18 c =
     let grouped = c .before .before .before .before .before in
     let on = grouped .before .before .before .before .before .before .pre .0 in
     omega (arith, row-few on, group-inside (grouped .group-end .ensures))
@@ -66,16 +66,13 @@ same-length : tie.Need-same-length
 same-length c = search needs
 
 returns-2 : tie.Need-returns-2
-returns-2 c = 
+returns-2 c =
     let merged = c .before .before in
     let boxed = merged .before in
     let grouped = boxed .before .before in
     let at-fault = grouped .before .before in
     let (on, ready) = at-fault .before .before .before .before .pre in
-    let group = grouped .group-end .ensures in
-    (advances-fault on ready (at-fault .if1 .left) group (boxed .row-box .ensures) (merged .merge .ensures),
-    omega (arith, group-from group),
-    omega (arith, group-inside group))
+    looks-fault on ready (at-fault .if1 .left) (grouped .group-end .ensures) (boxed .row-box .ensures) (merged .merge .ensures)
 
 pub merge-node-spec : {M : Type 1} → statement M
 merge-node-spec =

@@ -25,20 +25,20 @@ loop-holds : tie.Need-loop-holds Inv-loop μ-loop
 loop-holds c = along-none (c .before .before .before .pre .2)
 
 merge-node-requires : tie.Need-merge-node-requires Inv-loop μ-loop
-merge-node-requires c κs = 
+merge-node-requires c κs =
     let in-loop = c .before in
     let at-loop = in-loop .before in
     let pre = at-loop .before .before .before .before .pre in
     along-ready (pre .2) (at-loop .loop .inv) (pre .0) (pre .1) (in-loop .loop-test .taken)
 
 loop-less : tie.Need-loop-less Inv-loop μ-loop
-loop-less c = 
+loop-less c =
     let merged = c .before .before in
     let in-loop = merged .before .before in
-    omega (arith, in-loop .loop-test .taken, merged .merge-node .ensures .1)
+    omega (arith, in-loop .loop-test .taken, merged .merge-node .ensures .onward)
 
 loop-again : tie.Need-loop-again Inv-loop μ-loop
-loop-again c = 
+loop-again c =
     let merged = c .before .before in
     let at-loop = merged .before .before .before in
     along-more (at-loop .before .before .before .before .pre .2) (at-loop .loop .inv) (merged .merge-node .ensures)

@@ -20,7 +20,9 @@ shared-slice-read-if1 : tie.Need-shared-slice-read-if1 Inv-loop μ-loop
 shared-slice-read-if1 c = omega arith
 
 add-n : tie.Need-add-n Inv-loop μ-loop
-add-n c = omega (arith, c .before .before .before .loop .inv .few, c .before .before .before .loop .inv .within)
+add-n c =
+    let at-loop = c .before .before .before in
+    omega (arith, at-loop .loop .inv .few, at-loop .loop .inv .within)
 
 add-i : tie.Need-add-i Inv-loop μ-loop
 add-i c = omega arith
@@ -32,7 +34,8 @@ loop-again : tie.Need-loop-again Inv-loop μ-loop
 loop-again c =
     let in-loop = c .before .before in
     let counted = in-loop .before .loop .inv in
-    ⊎-elim (λ w. rw (w .1) (counted-fault counted (in-loop .loop-test .taken) (w .0 .taken))) (λ w. rw (w .1) (counted-other counted (in-loop .loop-test .taken) (w .0 .left)))
+    ⊎-elim (λ w. rw (w .1) (counted-fault counted (in-loop .loop-test .taken) (w .0 .taken)))
+    (λ w. rw (w .1) (counted-other counted (in-loop .loop-test .taken) (w .0 .left)))
     (c .if1 .came)
 
 returns : tie.Need-returns Inv-loop μ-loop

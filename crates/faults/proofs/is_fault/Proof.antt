@@ -1,6 +1,5 @@
 -- Before the end the byte decides. Assumes nothing.
 use borrow.Author.Needs.{needs}
-use native.Mathlib.Omega.{arith}
 use Rattle.faults.proofs.Groups.{no-fault, fault-test}
 use Rattle.faults.proofs.is_fault.Statement.{statement}
 use Rattle.faults.proofs.is_fault.Tie as tie
