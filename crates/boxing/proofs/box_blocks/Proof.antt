@@ -72,7 +72,9 @@ clear-requires c κs =
     let counted = fits .before in
     let told = counted .before in
     let clear = told-clear _ (told .enum-told .given .1) (told .before .before .check-map .ensures) in
-    clear-room _ _ _ _ clear (counted .count-faults .ensures) (fits .if1 .left) (merged .merge-faults .ensures) (sorts .sort .ensures)
+    let (fewer, enough) =
+    clear-room _ _ _ _ clear (counted .count-faults .ensures) (fits .if1 .left) (merged .merge-faults .ensures) (sorts .sort .ensures) in
+    (omega (arith, fewer), omega (arith, enough))
 
 cast-t20 : tie.Need-cast-t20
 cast-t20 c =
