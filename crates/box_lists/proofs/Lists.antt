@@ -13,9 +13,6 @@ length-put : (xs : List ℕ) (i : ℕ) (b : Box) → length (putBox xs i b) ≡ 
 unfolding putBox
 length-put xs i b = simp length-set
 
-pub room-put : (xs : List ℕ) (i n : ℕ) (b : Box) → Room xs n → Room (putBox xs i b) n
-room-put xs i n b r = record { room = rw (length-put xs i b) (r .room) }
-
 -- what stands where box i is written
 module _ (xs : List ℕ) (i : ℕ) (b : Box) where
   -- after the first store, the second, the third
@@ -87,15 +84,12 @@ kept-both p q = record { size = q .size ∙ p .size; kept = λ j l. q .kept j l 
 pub kept-later : {xs ys : List ℕ} {i k : ℕ} → i ≤ k → Kept xs i ys → Kept xs k ys
 kept-later h p = record { size = p .size; kept = λ j l. p .kept j (omega arith) }
 
--- room for one of n boxes, also after a store
+-- room for one of n boxes
 pub room-at : (xs : List ℕ) (n i : ℕ) → Room xs n → i < n → Room xs (i + 1)
 room-at xs n i r h = record { room = omega arith }
 
 pub room-before : {xs : List ℕ} {n i : ℕ} → Room xs n → 0 < i → i ≤ n → Room xs (i - 1 + 1)
 room-before r p q = record { room = omega arith }
-
-pub room-after : (xs : List ℕ) (n i k : ℕ) (b : Box) {ys : List ℕ} → Room xs n → ys ≡ putBox xs k b → i < n → Room ys (i + 1)
-room-after xs n i k b r e h = rw e (room-put xs k (i + 1) b (room-at xs n i r h))
 
 pub room-kept : {xs ys : List ℕ} {i n : ℕ} → Kept xs i ys → Room xs n → Room ys n
 room-kept k r = record { room = rw (k .size) (r .room) }

@@ -54,9 +54,9 @@ far-to xs a i zero f = refl
 far-to xs a i (suc n) f = rw (f i (omega arith) (omega arith)) (far-to xs a (suc i) n (λ j p q. f j (omega arith) (omega arith)))
 
 -- no two of them are close
-pub none-close : (xs : List ℕ) (i n : ℕ) → ((j k : ℕ) → j < k → k < n + i → close (boxAt xs j) (boxAt xs k) ≡ false) →
+pub no-two-close : (xs : List ℕ) (i n : ℕ) → ((j k : ℕ) → j < k → k < n + i → close (boxAt xs j) (boxAt xs k) ≡ false) →
     someClose (boxesFrom xs i n) ≡ false
 unfolding boxesFrom someClose
-none-close xs i zero f = refl
-none-close xs i (suc n) f =
-    rw (far-to xs (boxAt xs i) (suc i) n (λ j p q. f i j p (omega arith))) (none-close xs (suc i) n (λ j k p q. f j k p (omega arith)))
+no-two-close xs i zero f = refl
+no-two-close xs i (suc n) f =
+    rw (far-to xs (boxAt xs i) (suc i) n (λ j p q. f i j p (omega arith))) (no-two-close xs (suc i) n (λ j k p q. f j k p (omega arith)))

@@ -37,7 +37,6 @@ pub record Removes (xs : List ℕ) (j n : ℕ) (ys : List ℕ) : Type 0 where
 
 -- a is merged with n boxes, which leaves r that are far from each other; beyond n boxes and one more nothing changed
 pub record TakesIn (xs : List ℕ) (n : ℕ) (a : Box) (r : ℕ) (ys : List ℕ) : Type 0 where
-  pub few : r ≤ n + 1
   pub merges : Merges (a ∷ boxesFrom xs 0 n) (boxesFrom ys 0 r)
   pub spread : Spread ys r
   pub below : Below ys r (a .high-row)

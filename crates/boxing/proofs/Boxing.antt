@@ -30,7 +30,7 @@ use Rattle.theory_boxes.proofs.Room.{numbers-length}
 use Rattle.theory_boxes.proofs.Boxing.{lists-boxes}
 use Rattle.box_lists.specs.Lists.{boxAt, boxesFrom, Room}
 use Rattle.box_lists.specs.Sorting.{Sorts}
-use Rattle.box_lists.proofs.Places.{length-boxes, none-close}
+use Rattle.box_lists.proofs.Places.{length-boxes, no-two-close}
 use Rattle.boxing.specs.Steps.{faultsFrom, Ready, Advances, Cleared}
 use Rattle.boxing.proofs.Faults.{from-all, from-end}
 
@@ -96,7 +96,7 @@ module _ (columns rows : ℕ) (map list : List ℕ) where
           listed : boxesFrom zs 0 k ≡ boxes w
           listed =
               rw sub-zero at (sorts .boxes) ∙
-              any-order w (accepted clear .size) all-merged (none-close ys 0 k (λ i j p q. merged .spread .far i j p (omega arith)))
+              any-order w (accepted clear .size) all-merged (no-two-close ys 0 k (λ i j p q. merged .spread .far i j p (omega arith)))
 
           counted : k ≡ length (boxes w)
           counted = sym (length-boxes zs 0 k) ∙ ap length listed

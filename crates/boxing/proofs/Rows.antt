@@ -14,7 +14,7 @@ use Rattle.theory_boxes.specs.Boxes.{nodeBox, close, around}
 use Rattle.theory_boxes.specs.Merging.{Merges, begin}
 use Rattle.theory_boxes.proofs.Close.{close-true, box-ext}
 use Rattle.theory_boxes.proofs.Orders.{merges-trans, merges-pair}
-use Rattle.faults.specs.Groups.{Next, Group, alone, more}
+use Rattle.faults.specs.Groups.{Next, Chain, alone, more}
 use Rattle.boxes.specs.Corners.{rowBox}
 use Rattle.boxing.specs.Steps.{faultsFrom}
 use Rattle.boxing.proofs.Faults.{from-fault, from-later}
@@ -28,9 +28,9 @@ module _ (r x y z : ℕ) (h : y < z) (near : z < y + 3) where
   unfolding around rowBox
   row-around p = box-ext _ _ (omega arith) (omega arith) (omega arith) (omega arith)
 
-pub group-from : {map : List ℕ} {end i last : ℕ} → Group map end i last → i ≤ last
-group-from (alone h) = omega arith
-group-from (more g n) = omega (arith, group-from g, n .later)
+pub chain-from : {map : List ℕ} {end i last : ℕ} → Chain map end i last → i ≤ last
+chain-from (alone h) = omega arith
+chain-from (more g n) = omega (arith, chain-from g, n .later)
 
 module _ (columns rows : ℕ) (map : List ℕ) (sized : Sized columns rows map) (r : ℕ) (on : r < rows) where
   abbrev start : ℕ
@@ -63,11 +63,11 @@ module _ (columns rows : ℕ) (map : List ℕ) (sized : Sized columns rows map) 
 
   -- from the first to the last
   module _ (i : ℕ) (from : start ≤ i) (fault : isBad (getD map i 0) ≡ true) where
-    pub group-merges : {last : ℕ} → Group map (start + columns) i last →
+    pub chain-merges : {last : ℕ} → Chain map (start + columns) i last →
         Merges (faultsFrom (mesh columns rows map) i) (rowBox r (i - start) (last - start) ∷ faultsFrom (mesh columns rows map) (last + 1))
-    group-merges (alone h) = rw (fault-here i from h fault) (begin (Permᴰ·refl _))
-    group-merges (more {j} {k} g n) =
-        let p = group-from g in
+    chain-merges (alone h) = rw (fault-here i from h fault) (begin (Permᴰ·refl _))
+    chain-merges (more {j} {k} g n) =
+        let p = chain-from g in
         let next = fault-next j k (omega arith) n in
         let rest = faultsFrom (mesh columns rows map) (k + 1) in
         let a = i - start in
@@ -75,5 +75,5 @@ module _ (columns rows : ℕ) (map : List ℕ) (sized : Sized columns rows map) 
         let c = k - start in
         let h : b < c = omega (arith, n .later) in
         let l : c < b + 3 = omega (arith, n .near) in
-        merges-trans (rw next at (group-merges g))
+        merges-trans (rw next at (chain-merges g))
         (rw (row-around r a b c h l (omega arith)) at (merges-pair (rowBox r a b) (rowBox r c c) rest (row-close r a b c h l (omega arith))))

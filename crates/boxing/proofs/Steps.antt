@@ -14,7 +14,7 @@ use Rattle.theory_boxes.specs.Boxes.{Box}
 use Rattle.theory_boxes.specs.Merging.{Reordered, begin}
 use Rattle.theory_boxes.proofs.Orders.{merges-trans, merges-from, merges-beside, merges-shorter}
 use Rattle.faults.specs.Groups.{Group}
-use Rattle.faults.proofs.Groups.{group-inside}
+use Rattle.faults.proofs.Groups.{chain-inside}
 use Rattle.boxes.specs.Corners.{rowBox}
 use Rattle.box_lists.specs.Lists.{boxesFrom, Room}
 use Rattle.box_lists.specs.Merging.{Spread, Below, Ends, TakesIn}
@@ -23,7 +23,7 @@ use Rattle.box_lists.proofs.Places.{length-boxes}
 use Rattle.boxing.specs.Steps.{OnRow, faultsFrom, Ready, Advances, LooksAt, MergesRow}
 use Rattle.boxing.specs.declared.Step.{Step}
 use Rattle.boxing.proofs.Faults.{from-fault, from-sound}
-use Rattle.boxing.proofs.Rows.{group-from, group-merges}
+use Rattle.boxing.proofs.Rows.{chain-from, chain-merges}
 
 append-order : (l m : List Box) → Reordered (l ++ m) (m ++ l)
 append-order [] m = Permᴰ·symm (Permᴰ·append-nil m)
@@ -34,7 +34,7 @@ below-later h b = record { below = λ i p. let u = b .below i p in omega arith }
 
 module _ {w : Mesh} {r : ℕ} {xs : List ℕ} {i n : ℕ} where
   -- nothing is done
-  pub advances-none : Ready w r xs i n → Advances w r xs i n i n xs
+  advances-none : Ready w r xs i n → Advances w r xs i n i n xs
   advances-none a = record { merges = begin (Permᴰ·refl _); spread = a .spread; below = a .below; beyond = kept-all xs _ }
 
   module _ {j k : ℕ} {ys : List ℕ} (a : Advances w r xs i n j k ys) where
@@ -46,7 +46,7 @@ module _ {w : Mesh} {r : ℕ} {xs : List ℕ} {i n : ℕ} where
         omega (arith, merges-shorter (a .merges), after, before, length-boxes ys 0 k, length-boxes xs 0 n)
 
     -- the next step, in the same row or a later one
-    pub advances-ready : {s : ℕ} → r ≤ s → Room xs (n + length (faultsFrom w i)) → Ready w s ys j k
+    advances-ready : {s : ℕ} → r ≤ s → Room xs (n + length (faultsFrom w i)) → Ready w s ys j k
     advances-ready h room =
         record {
           spread = a .spread;
@@ -57,7 +57,7 @@ module _ {w : Mesh} {r : ℕ} {xs : List ℕ} {i n : ℕ} where
     advances-later : {s : ℕ} → r ≤ s → Advances w s xs i n j k ys
     advances-later h = record { merges = a .merges; spread = a .spread; below = below-later h (a .below); beyond = a .beyond }
 
-    pub advances-both : {s l m : ℕ} {zs : List ℕ} → Advances w s ys j k l m zs → Advances w s xs i n l m zs
+    advances-both : {s l m : ℕ} {zs : List ℕ} → Advances w s ys j k l m zs → Advances w s xs i n l m zs
     advances-both b =
         record {
           merges = merges-trans (a .merges) (b .merges);
@@ -109,7 +109,7 @@ module _ {columns rows : ℕ} {map : List ℕ} {r i : ℕ} (on : OnRow columns r
             record {
               merges =
                   merges-from (append-order (boxesFrom xs 0 n) (faultsFrom w i))
-                  (merges-trans (merges-beside (boxesFrom xs 0 n) (group-merges columns rows map (on .sized) r (on .row) i (on .from) fault g))
+                  (merges-trans (merges-beside (boxesFrom xs 0 n) (chain-merges columns rows map (on .sized) r (on .row) i (on .from) fault (g .chain)))
                   (merges-from (List·Permᴰ·cons refl (append-order (faultsFrom w (last + 1)) (boxesFrom xs 0 n)))
                   (merges-beside (faultsFrom w (last + 1)) (rw eb at (t .merges)))));
               spread = t .spread;
@@ -118,7 +118,7 @@ module _ {columns rows : ℕ} {map : List ℕ} {r i : ℕ} (on : OnRow columns r
             }
 
         pub looks-fault : {k : ℕ} {ys : List ℕ} → TakesIn xs n b k ys → LooksAt w r xs i n (record { boxes = k; next = last + 1 }) ys
-        looks-fault t = record { done = advances-fault t; onward = omega (arith, group-from g); within = omega (arith, group-inside g) }
+        looks-fault t = record { done = advances-fault t; onward = omega (arith, chain-from (g .chain)); within = omega (arith, chain-inside (g .chain)) }
 
 -- Of a row the nodes before index i are looked at.
 pub record Along (columns rows : ℕ) (map : List ℕ) (r : ℕ) (xs : List ℕ) (n end i k : ℕ) (ys : List ℕ) : Type 0 where

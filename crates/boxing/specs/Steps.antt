@@ -43,7 +43,7 @@ pub record LooksAt (w : Mesh) (r : ℕ) (xs : List ℕ) (i n : ℕ) (x : Step) (
   pub onward : i < x .next
   pub within : x .next ≤ r * w .columns + w .columns
 
--- all nodes of row r are
+-- all nodes of row r are looked at
 abbrev pub MergesRow : Mesh → ℕ → List ℕ → ℕ → ℕ → List ℕ → Type 0
 MergesRow w r xs n k ys = Advances w r xs (r * w .columns) n (r * w .columns + w .columns) k ys
 

@@ -23,7 +23,8 @@ pub struct Step {
     pub next: usize,
 }
 
-// Looks at node i of a row: merges the box of its fault, and of those after it that are close, with the n boxes of the list.
+// Looks at index i of the map, in row r: if there is a fault, the box round it and those after it that are close is merged with the n boxes of the
+// list.
 fn merge_node(
     columns: u32,
     rows: u32,

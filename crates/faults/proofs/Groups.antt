@@ -10,7 +10,7 @@ use lib.ListN.{getD}
 use Rattle.mesh.specs.Nodes.{isBad}
 use Rattle.mesh.proofs.Bools.{and-both, and-right}
 use Rattle.nodes.proofs.Lookup.{isBad-test}
-use Rattle.faults.specs.Groups.{faultBefore, Next, Near, same, next, Group, alone, more}
+use Rattle.faults.specs.Groups.{faultBefore, Next, NoneNear, Near, same, next, Chain, alone, more, Group}
 
 module _ (map : List ℕ) (i end : ℕ) where
   pub no-fault : end ≤ i → false ≡ faultBefore map end i
@@ -43,20 +43,30 @@ module _ (map : List ℕ) (i end : ℕ) where
           none-between = λ j a b. let e : j ≡ i + 1 = omega arith in rw e sound;
         })
 
+  pub neither-on : {x y : Bool} → x ≡ faultBefore map end (i + 1) → x ≡ false → y ≡ faultBefore map end (i + 2) → y ≡ false → Near map end i i
+  neither-on ex e ey f = same (record { one-on = sym ex ∙ e; two-on = sym ey ∙ f })
+
 -- the faults from index i to index last, and where the next is looked for
 pub record Grouping (map : List ℕ) (end i last k : ℕ) : Type 0 where
-  pub group : Group map end i last
+  pub chain : Chain map end i last
   pub near : Near map end last k
 
 near-next : {map : List ℕ} {end i k : ℕ} → Near map end i k → i < k → Next map end i k
-near-next same h = absurd (omega arith)
+near-next (same n) h = absurd (omega arith)
 near-next (next n) h = n
 
+near-none : {map : List ℕ} {end i k : ℕ} → Near map end i k → k ≤ i → NoneNear map end i
+near-none (same n) h = n
+near-none (next n) h = absurd (omega (arith, n .later))
+
 module _ {map : List ℕ} {end i : ℕ} where
-  pub group-inside : {last : ℕ} → Group map end i last → last < end
-  group-inside (alone h) = h
-  group-inside (more g n) = n .inside
+  pub chain-inside : {last : ℕ} → Chain map end i last → last < end
+  chain-inside (alone h) = h
+  chain-inside (more g n) = n .inside
 
   module _ {last k : ℕ} (g : Grouping map end i last k) where
-    pub grouped-more : last < k → Group map end i k
-    grouped-more h = more (g .group) (near-next (g .near) h)
+    pub grouped-more : last < k → Chain map end i k
+    grouped-more h = more (g .chain) (near-next (g .near) h)
+
+    pub grouped-all : k ≤ last → Group map end i last
+    grouped-all h = record { chain = g .chain; last = near-none (g .near) h }

@@ -19,12 +19,22 @@ pub record Next (map : List ℕ) (end i k : ℕ) : Type 0 where
   pub fault : isBad (getD map k 0) ≡ true
   pub none-between : (j : ℕ) → i < j → j < k → isBad (getD map j 0) ≡ false
 
--- the same index, or such a fault
+-- there is no such fault
+pub record NoneNear (map : List ℕ) (end i : ℕ) : Type 0 where
+  pub one-on : faultBefore map end (i + 1) ≡ false
+  pub two-on : faultBefore map end (i + 2) ≡ false
+
+-- such a fault, or i where there is none
 pub data Near (map : List ℕ) (end i : ℕ) : ℕ → Type 0 where
-  same : Near map end i i
+  same : NoneNear map end i → Near map end i i
   next : {k : ℕ} → Next map end i k → Near map end i k
 
 -- from one fault to the next, any number of times
-pub data Group (map : List ℕ) (end i : ℕ) : ℕ → Type 0 where
-  alone : i < end → Group map end i i
-  more : {j k : ℕ} → Group map end i j → Next map end j k → Group map end i k
+pub data Chain (map : List ℕ) (end i : ℕ) : ℕ → Type 0 where
+  alone : i < end → Chain map end i i
+  more : {j k : ℕ} → Chain map end i j → Next map end j k → Chain map end i k
+
+-- as far as they go
+pub record Group (map : List ℕ) (end i k : ℕ) : Type 0 where
+  pub chain : Chain map end i k
+  pub last : NoneNear map end k

@@ -1,4 +1,4 @@
--- Where a fault is allowed, and what refusals 1 to 3 leave, case by case. Assumes nothing.
+-- Where a fault is allowed, and what refusals 1 to 3 and 1 to 5 let pass. Assumes nothing.
 use mathlib.Core.Path.{_≡_}
 use mathlib.Core.Bool.{Bool, false, not, and-false}
 use mathlib.Core.List.{List}

@@ -8,7 +8,6 @@ use lib.ListN.{length, getD, set, length-set}
 use lib.Seq.{getD-set-same, getD-set-other}
 use Rattle.mesh.specs.Mesh.{Mesh}
 use Rattle.mesh.proofs.Index.{index-within}
-use Rattle.nodes.specs.Sized.{Sized}
 use Rattle.nodes.specs.Rounds.{nodeAfter}
 use Rattle.rounds.specs.Rounds.{RowAfter, DueAfter, OthersSettled, Near, Spread, QuietSettled}
 

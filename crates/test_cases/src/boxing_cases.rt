@@ -91,7 +91,7 @@ fn try_refusals() {
     try_list(10, 8, &other, 7);
 }
 
-// Boxes that are close only when others have been merged; one tall box beside smaller ones.
+// Boxes that are close only when others have been merged; two boxes that begin in the same row; three boxes, one of two rows.
 pub fn try_boxes() {
     try_starred();
     try_four(12, 42, 34, 26, 25);

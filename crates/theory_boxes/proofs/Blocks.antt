@@ -1,6 +1,6 @@
 -- Boxes that merging has left, far from each other, are the boxes of the blocks, and all of these. Assumes nothing.
 use mathlib.Core.Path.{_≡_}
-use mathlib.Core.Logic.{inl, inr}
+use mathlib.Core.Logic.{_↔_, inl, inr}
 use mathlib.Core.Bool.{true}
 use mathlib.Core.List.{List, List·Memᴰ, map, Memᴰ·map}
 use Prim.Native.Nat.{ℕ, _+_, _-_, _*_, _≤_, _<_}
@@ -16,13 +16,19 @@ use Rattle.theory_blocks.specs.Obstacles.{Listed, Pairs}
 use Rattle.theory_blocks.proofs.Apart.{apart-nodes}
 use Rattle.theory_blocks.proofs.Listed.{blocks-walled, bad-in-block}
 use Rattle.theory_blocks.proofs.Theorems.{marking-holds-faults, marking-is-closed, marking-is-least, blocks-are-apart, any-blocks-are-apart}
-use Rattle.theory_boxes.specs.Boxes.{Box, nodeBox, faultBoxes, boxOf}
-use Rattle.theory_boxes.specs.Merging.{Merges, In}
+use Rattle.theory_boxes.specs.Boxes.{Box, In, nodeBox, faultBoxes, boxOf}
+use Rattle.theory_boxes.specs.Merging.{Merges}
 use Rattle.theory_boxes.proofs.Close.{box-ext}
 use Rattle.theory_boxes.proofs.Far.{Far}
 use Rattle.theory_boxes.proofs.Gathering.{Lies, AllLie, merges-lie, merges-enclose}
 use Rattle.theory_boxes.proofs.Covering.{covers, Covered, covers-told, covers-true, holds-near, covers-closed}
 use Rattle.theory_boxes.proofs.Faults.{mem-faults, faults-mem}
+
+-- the box of a block
+pub block-box : (w : Mesh) → length (w .map) ≡ w .columns * w .rows → (b : Block) → Listed b (blocks (marked w)) → (r c : ℕ) →
+    In (boxOf b) r c ↔ Within b r c
+unfolding boxOf
+block-box w size b i r c = let wall = blocks-walled (marked w) (marking-is-closed w size) b i in omega arith
 
 module _ (w : Mesh) (size : length (w .map) ≡ w .columns * w .rows) {l : List Box} (m : Merges (faultBoxes w) l) where
   abbrev bs : List Block

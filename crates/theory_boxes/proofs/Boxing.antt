@@ -1,4 +1,4 @@
--- What stands in the list after a call that keeps its promise. Assumes nothing.
+-- What stands in the list after a call that keeps its promise, and when a call keeps it. Assumes nothing.
 use mathlib.Core.Path.{_≡_, sym, _∙_}
 use mathlib.Core.List.{List, append-assoc}
 use Prim.Native.Nat.{ℕ, suc, _*_, _≤_, _<_}

@@ -11,8 +11,7 @@ use Rattle.mesh.proofs.Bools.{true-false, and-both, or-cases}
 use Rattle.theory_blocks.specs.Marking.{Closed}
 use Rattle.theory_blocks.specs.Obstacles.{Pairs}
 use Rattle.theory_blocks.proofs.Rules.{Reason, between-two, crossed, reasons-closed}
-use Rattle.theory_boxes.specs.Boxes.{Box}
-use Rattle.theory_boxes.specs.Merging.{In}
+use Rattle.theory_boxes.specs.Boxes.{Box, In}
 use Rattle.theory_boxes.proofs.Close.{far-told}
 use Rattle.theory_boxes.proofs.Far.{Far, far-any}
 

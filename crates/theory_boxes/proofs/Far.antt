@@ -1,8 +1,8 @@
 -- Lists of boxes of which no two are close. Assumes nothing.
-use mathlib.Core.Path.{_≡_, refl, _∙_}
+use mathlib.Core.Path.{_≡_, _∙_}
 use mathlib.Core.Logic.{_⊎_, inl, inr}
 use mathlib.Core.Bool.{false}
-use mathlib.Core.List.{List, [], _∷_, List·Memᴰ, List·Memᴰ·head, List·Memᴰ·tail, List·Memᴰ·not-nil, List·Memᴰ·cases-cons}
+use mathlib.Core.List.{List, [], _∷_, List·Memᴰ, List·Memᴰ·not-nil, List·Memᴰ·cases-cons}
 use Rattle.mesh.proofs.Bools.{or-none}
 use Rattle.theory_blocks.specs.Obstacles.{Pairs, none, more}
 use Rattle.theory_blocks.proofs.Apart.{pairs-any}
@@ -20,22 +20,12 @@ closeTo-far a (c ∷ l) e b i =
     let (p, q) = or-none (close a c) (closeTo a l) e in
     elim (List·Memᴰ·cases-cons i) [ inl h ↦ record { far = rw h p } | inr j ↦ closeTo-far a l q b j ]
 
-far-closeTo : (a : Box) (l : List Box) → ((b : Box) → List·Memᴰ b l → Far a b) → closeTo a l ≡ false
-unfolding closeTo
-far-closeTo a [] h = refl
-far-closeTo a (b ∷ l) h = rw (h b (List·Memᴰ·head refl) .far) (far-closeTo a l (λ c i. h c (List·Memᴰ·tail i)))
-
 pub none-close : (l : List Box) → someClose l ≡ false → Pairs Far l
 unfolding someClose
 none-close [] e = none
 none-close (a ∷ l) e =
     let (p, q) = or-none (closeTo a l) (someClose l) e in
     more (closeTo-far a l p) (none-close l q)
-
-pub far-none : (l : List Box) → Pairs Far l → someClose l ≡ false
-unfolding someClose
-far-none [] none = refl
-far-none (a ∷ l) (more h p) = rw (far-closeTo a l h) (far-none l p)
 
 far-sym : (a b : Box) → Far a b → Far b a
 far-sym a b f = record { far = close-swap b a ∙ f .far }

@@ -1,5 +1,6 @@
 -- The boxes that are left, sorted, are those of the blocks in the order of the list of blocks. Assumes nothing.
 use mathlib.Core.Path.{_≡_}
+use mathlib.Core.Bool.{true}
 use mathlib.Core.List.{List, [], _∷_, map, Memᴰ·of-map, Permᴰ·symm}
 use Prim.Native.Nat.{ℕ, zero, suc, _*_, _/_, _%_, _≤_, _<_}
 use native.Mathlib.Nat.{div-zero, div-add-mod', div-mul-le-self, le-div-iff-mul-le}
@@ -12,13 +13,13 @@ use Rattle.mesh.specs.Blocks.{Block, corner, blockAt, blocks}
 use Rattle.theory_blocks.specs.Obstacles.{Pairs, none, more}
 use Rattle.theory_blocks.proofs.Apart.{pairs-map}
 use Rattle.theory_blocks.proofs.Selected.{selected-pairs}
-use Rattle.theory_boxes.specs.Boxes.{Box, faultBoxes, sorted, boxOf}
+use Rattle.theory_boxes.specs.Boxes.{Box, faultBoxes, earlier, sorted, boxOf}
 use Rattle.theory_boxes.specs.Merging.{Merges}
 use Rattle.theory_boxes.proofs.Close.{far-told}
 use Rattle.theory_boxes.proofs.Orders.{reordered-mem}
 use Rattle.theory_boxes.proofs.Far.{Far}
 use Rattle.theory_boxes.proofs.Blocks.{all-lie, box-is-block, block-is-box}
-use Rattle.theory_boxes.proofs.Sorting.{Before, Differ, sorted-reordered, sorted-pairs, sorted-same}
+use Rattle.theory_boxes.proofs.Sorting.{Before, Differ, earlier-true, sorted-reordered, sorted-pairs, sorted-same}
 
 -- places in the order of their indices
 row-order : (n i j : ℕ) → i ≤ j → i / n ≤ j / n
@@ -43,6 +44,9 @@ blocks-sorted w =
     (λ a b. Before (boxOf a) (boxOf b))
     (λ i j h t u. record { rows = row-order (w .columns) i j (omega arith); columns = column-order (w .columns) i j h })
     (w .columns * w .rows) 0)
+
+pub blocks-in-order : (w : Mesh) → Pairs (λ a b. earlier a b ≡ true) (map boxOf (blocks w))
+blocks-in-order w = pairs-map (map boxOf (blocks w)) (λ a b i j. earlier-true a b) (blocks-sorted w)
 
 module _ (w : Mesh) (size : length (w .map) ≡ w .columns * w .rows) {l : List Box} (m : Merges (faultBoxes w) l) (p : Pairs Far l) where
   -- boxes that are far from each other do not begin at the same node

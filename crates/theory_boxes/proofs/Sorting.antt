@@ -1,11 +1,11 @@
--- Sorting by lowest row, then lowest column: the same boxes, each before the later ones; and only one such list has given boxes. Assumes nothing.
+-- Sorting by lowest row, then lowest column: the same boxes, each before the later ones; and no two such lists have the same boxes. Assumes nothing.
 use mathlib.Core.Path.{_≡_, refl, sym}
 use mathlib.Core.Logic.{_⊎_, inl, inr}
 use mathlib.Core.Bool.{Bool, true, false, _&&_}
 use mathlib.Core.List.{List, [], _∷_, List·Memᴰ, List·Memᴰ·head, List·Memᴰ·tail, List·Memᴰ·not-nil, List·Memᴰ·cases-cons, List·Permᴰ·nil, List·Permᴰ·cons, List·Permᴰ·swap, List·Permᴰ·trans, Permᴰ·refl, Permᴰ·symm}
 use Prim.Native.Nat.{_≤_, _<_}
 use native.Mathlib.Omega.{arith}
-use borrow.Author.Tests.{ltb-true, ltb-false, eqb-true, eq-eqb}
+use borrow.Author.Tests.{ltb-true, ltb-false, lt-ltb, eqb-true, eq-eqb}
 use lib.Dec.{ltb, eqb}
 use Rattle.mesh.proofs.Bools.{value, and-both, and-right, or-cases, or-none}
 use Rattle.theory_blocks.specs.Obstacles.{Pairs, none, more}
@@ -40,6 +40,14 @@ module _ (a b : Box) where
         | inr h ↦
             let (p, q) = and-both {a = level} h in
             record { rows = omega (arith, eqb-true); columns = λ s. omega (arith, ltb-true) }
+      ]
+
+  pub earlier-true : Before a b → earlier a b ≡ true
+  unfolding earlier
+  earlier-true p =
+      elim (value lower) [
+        | inl e ↦ rw e
+        | inr e ↦ let s : a .low-row ≡ b .low-row = omega (arith, ltb-false, p .rows) in rw (e, eq-eqb _ _ s, lt-ltb _ _ (p .columns s))
       ]
 
   -- if it is not the one it is the other

@@ -14,15 +14,18 @@ use Rattle.mesh.specs.Blocks.{Block, blocks}
 use Rattle.mesh.specs.Maps.{mapTests}
 use Rattle.mesh.proofs.Maps.{Accepted}
 use Rattle.theory_blocks.specs.Blocks.{Within}
+use Rattle.theory_blocks.specs.Obstacles.{Listed, Pairs}
 use Rattle.theory_blocks.proofs.Theorems.{blocks-are-few}
 use Rattle.theory_boxes.specs.declared.Boxed.{Boxed}
-use Rattle.theory_boxes.specs.Boxes.{Box, faultBoxes, someClose, mergeTwo, mergeAll, sorted, boxes, boxOf}
-use Rattle.theory_boxes.specs.Merging.{Replaced, Merges, In}
+use Rattle.theory_boxes.specs.Boxes.{Box, In, faultBoxes, someClose, mergeTwo, mergeAll, earlier, sorted, boxes, boxOf}
+use Rattle.theory_boxes.specs.Merging.{Replaced, Merges}
 use Rattle.theory_boxes.specs.Boxing.{numbers, roomFor, boxList, boxRefusal, ListsBoxes}
+use Rattle.theory_boxes.proofs.Orders.{replaced-shorter}
 use Rattle.theory_boxes.proofs.Far.{none-close}
 use Rattle.theory_boxes.proofs.Merging.{two-replaced, all-merges, all-far}
 use Rattle.theory_boxes.proofs.Faults.{faults-counted}
-use Rattle.theory_boxes.proofs.Sorted.{sorted-blocks}
+use Rattle.theory_boxes.proofs.Blocks.{block-box}
+use Rattle.theory_boxes.proofs.Sorted.{blocks-in-order, sorted-blocks}
 use Rattle.theory_boxes.proofs.Room.{numbers-fit, list-sized, room-refused}
 use Rattle.theory_boxes.proofs.Boxing.{refused-leaves, length-stays, front-numbers, zeros-after, rest-left}
 
@@ -30,7 +33,11 @@ use Rattle.theory_boxes.proofs.Boxing.{refused-leaves, length-stays, fr
 pub merge-replaces-two : (l : List Box) → someClose l ≡ true → Replaced l (mergeTwo l)
 merge-replaces-two = two-replaced
 
--- nothing else is done to the list;
+-- whichever two they are, a box less is left;
+pub each-merge-leaves-one-less : {l m : List Box} → Replaced l m → length l ≡ suc (length m)
+each-merge-leaves-one-less = replaced-shorter
+
+-- nothing else is done to the boxes;
 pub merging-only : (l : List Box) → Merges l (mergeAll (length l) l)
 merging-only l = all-merges (length l) l
 
@@ -50,13 +57,16 @@ module _ (w : Mesh) (size : length (w .map) ≡ w .columns * w .rows) where
   any-order {l} m e = sorted-blocks w size m (none-close l e) ∙ sym boxes-are-blocks
 
   -- as many as blocks
-  pub same-number : length (boxes w) ≡ length (blocks (marked w))
-  same-number = ap length boxes-are-blocks ∙ length-map (blocks (marked w)) boxOf
+  pub as-many-as-blocks : length (boxes w) ≡ length (blocks (marked w))
+  as-many-as-blocks = ap length boxes-are-blocks ∙ length-map (blocks (marked w)) boxOf
 
--- The box of a block has the block's nodes.
-pub box-nodes : (b : Block) → 0 < b .height → 0 < b .width → (r c : ℕ) → In (boxOf b) r c ↔ Within b r c
-unfolding boxOf
-box-nodes b tall wide r c = omega arith
+  -- the box of a block has the block's nodes
+  pub box-nodes : (b : Block) → Listed b (blocks (marked w)) → (r c : ℕ) → In (boxOf b) r c ↔ Within b r c
+  box-nodes = block-box w size
+
+  -- each box comes before the later ones: by lowest row, then lowest column
+  pub boxes-are-in-order : Pairs (λ a b. earlier a b ≡ true) (boxes w)
+  boxes-are-in-order = rw boxes-are-blocks (blocks-in-order (marked w))
 
 -- Of a map that refusals 1 to 5 let pass.
 module _ {columns rows : ℕ} {map : List ℕ} (a : Accepted columns rows map) where
@@ -74,7 +84,7 @@ module _ {columns rows : ℕ} {map : List ℕ} (a : Accepted columns rows map) w
 
   -- they are few: their number, beside refusals as 65,536 plus theirs, can't be taken for one
   pub boxes-are-few : length (boxes (mesh columns rows map)) ≤ 4096
-  boxes-are-few = rw (same-number (mesh columns rows map) (a .size)) (blocks-are-few a)
+  boxes-are-few = rw (as-many-as-blocks (mesh columns rows map) (a .size)) (blocks-are-few a)
 
 -- Refusal 10 applies exactly if 1 to 5 don't and the list is shorter than four numbers for each fault.
 pub refusal-10 : (columns rows : ℕ) (map list : List ℕ) →

@@ -1,7 +1,7 @@
 -- Blocks from rectangles (document 02, E10): boxes, when two are replaced by one, and the list that is left. Assumes nothing.
 use mathlib.Core.Bool.{Bool, false, cond, _&&_, _||_}
 use mathlib.Core.List.{List, [], _∷_}
-use Prim.Native.Nat.{ℕ, zero, suc, _+_, _-_, _/_, _%_, min, max}
+use Prim.Native.Nat.{ℕ, zero, suc, _+_, _-_, _/_, _%_, _≤_, min, max}
 use lib.Dec.{ltb, eqb}
 use lib.ListN.{length, getD}
 use Rattle.mesh.specs.Mesh.{Mesh}
@@ -16,6 +16,13 @@ pub record Box : Type 0 where
   pub low-column : ℕ
   pub high-row : ℕ
   pub high-column : ℕ
+
+-- (r, c) is a node of b
+pub record In (b : Box) (r c : ℕ) : Type 0 where
+  pub south : b .low-row ≤ r
+  pub north : r ≤ b .high-row
+  pub west : b .low-column ≤ c
+  pub east : c ≤ b .high-column
 
 -- a box of one node
 unfoldable pub nodeBox : ℕ → ℕ → Box
@@ -32,9 +39,11 @@ faultBoxes w =
 unfoldable pub apart : ℕ → ℕ → ℕ → ℕ → ℕ
 apart low high low′ high′ = max (low′ - high) (low - high′)
 
+-- how far two boxes are apart in column
 unfoldable pub columnsApart : Box → Box → ℕ
 columnsApart a b = apart (a .low-column) (a .high-column) (b .low-column) (b .high-column)
 
+-- and in row
 unfoldable pub rowsApart : Box → Box → ℕ
 rowsApart a b = apart (a .low-row) (a .high-row) (b .low-row) (b .high-row)
 
@@ -98,6 +107,7 @@ insert a (b ∷ bs) =
     let rest = insert a bs in
     cond (earlier a b) (a ∷ b ∷ bs) (b ∷ rest)
 
+-- all in that order
 unfoldable pub sorted : List Box → List Box
 sorted [] = []
 sorted (a ∷ bs) = insert a (sorted bs)

@@ -29,7 +29,7 @@ allHold [] = true
 allHold (x ∷ xs) = holds x && allHold xs
 
 -- No fault. The starred maps of document 01: A, C, and those of one block of 3 nodes, one of 6, and two blocks. Boxes that are close only when others
--- have been merged; two that begin in the same row, and three. What is refused: a list that is one number short, and what comes before that.
+-- have been merged; two boxes that begin in the same row; three boxes, one of two rows. What is refused: a list that is one number short, and what comes before that.
 unfoldable pub worked : List Case
 worked =
     lists [] [] ∷

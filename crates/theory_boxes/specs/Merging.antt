@@ -2,7 +2,6 @@
 use mathlib.Core.Path.{_≡_}
 use mathlib.Core.Bool.{true}
 use mathlib.Core.List.{List, _∷_, List·Permᴰ}
-use Prim.Native.Nat.{ℕ, _≤_}
 use Rattle.theory_boxes.specs.Boxes.{Box, close, around}
 
 -- the same boxes, each as often, in any order
@@ -22,10 +21,3 @@ pub record Replaced (l m : List Box) : Type 0 where
 pub data Merges (l : List Box) : List Box → Type 0 where
   begin : {m : List Box} → Reordered l m → Merges l m
   again : {m n : List Box} → Merges l m → Replaced m n → Merges l n
-
--- (r, c) is a node of b
-pub record In (b : Box) (r c : ℕ) : Type 0 where
-  pub south : b .low-row ≤ r
-  pub north : r ≤ b .high-row
-  pub west : b .low-column ≤ c
-  pub east : c ≤ b .high-column

@@ -1,4 +1,4 @@
--- The numbers before index i are 0. Assumes nothing.
+-- The numbers from the start to before index i are 0. Assumes nothing.
 use mathlib.Core.Path.{_≡_}
 use Prim.Native.Nat.{_-_, _≤_}
 use native.Mathlib.Omega.{arith}

@@ -1,7 +1,7 @@
 -- A sound node is passed over; a fault is merged with those after it that are close. Assumes nothing.
 use native.Mathlib.Omega.{arith}
-use Rattle.faults.proofs.Groups.{group-inside}
-use Rattle.boxing.proofs.Rows.{group-from}
+use Rattle.faults.proofs.Groups.{chain-inside}
+use Rattle.boxing.proofs.Rows.{chain-from}
 use Rattle.boxing.proofs.Steps.{row-end, row-few, looks-sound, fault-ready, looks-fault}
 use borrow.Author.Needs.{needs}
 use Rattle.boxing.proofs.merge_node.Statement.{statement}
@@ -39,12 +39,12 @@ cast-t17 c = search needs
 sub-t19 : tie.Need-sub-t19
 sub-t19 c =
     let on = c .before .before .before .before .before .before .pre .0 in
-    omega (arith, on .from, group-from (c .group-end .ensures))
+    omega (arith, on .from, chain-from (c .group-end .ensures .chain))
 
 cast-t17-2 : tie.Need-cast-t17-2
 cast-t17-2 c =
     let on = c .before .before .before .before .before .before .pre .0 in
-    omega (arith, row-few on, group-inside (c .group-end .ensures))
+    omega (arith, row-few on, chain-inside (c .group-end .ensures .chain))
 
 row-box-requires : tie.Need-row-box-requires
 row-box-requires c κs = search needs
@@ -60,7 +60,7 @@ add-t18 : tie.Need-add-t18
 add-t18 c =
     let grouped = c .before .before .before .before .before in
     let on = grouped .before .before .before .before .before .before .pre .0 in
-    omega (arith, row-few on, group-inside (grouped .group-end .ensures))
+    omega (arith, row-few on, chain-inside (grouped .group-end .ensures .chain))
 
 same-length : tie.Need-same-length
 same-length c = search needs

@@ -2,7 +2,7 @@
 use Prim.Native.Nat.{_-_}
 use native.Mathlib.Omega.{arith}
 use Rattle.faults.specs.Groups.{alone}
-use Rattle.faults.proofs.Groups.{Grouping, group-inside, grouped-more}
+use Rattle.faults.proofs.Groups.{Grouping, chain-inside, grouped-more, grouped-all}
 use Rattle.faults.proofs.group_end.Statement.{statement}
 use Rattle.faults.proofs.group_end.Tie as tie
 
@@ -16,26 +16,26 @@ next-near-requires : tie.Need-next-near-requires Inv-loop μ-loop
 next-near-requires c κs = c .before .pre
 
 loop-holds : tie.Need-loop-holds Inv-loop μ-loop
-loop-holds c = record { group = alone (c .before .before .pre .0); near = c .next-near .ensures }
+loop-holds c = record { chain = alone (c .before .before .pre .0); near = c .next-near .ensures }
 
 next-near-requires-2 : tie.Need-next-near-requires-2 Inv-loop μ-loop
 next-near-requires-2 c κs =
     let at-loop = c .before in
-    (group-inside (grouped-more (at-loop .loop .inv) (c .loop-test .taken)), at-loop .before .before .before .pre .1)
+    (chain-inside (grouped-more (at-loop .loop .inv) (c .loop-test .taken)), at-loop .before .before .before .pre .1)
 
 loop-less : tie.Need-loop-less Inv-loop μ-loop
 loop-less c =
     let in-loop = c .before in
     let grouping = in-loop .before .loop .inv in
-    omega (arith, in-loop .loop-test .taken, group-inside (grouped-more grouping (in-loop .loop-test .taken)))
+    omega (arith, in-loop .loop-test .taken, chain-inside (grouped-more grouping (in-loop .loop-test .taken)))
 
 loop-again : tie.Need-loop-again Inv-loop μ-loop
 loop-again c =
     let in-loop = c .before in
-    record { group = grouped-more (in-loop .before .loop .inv) (in-loop .loop-test .taken); near = c .next-near2 .ensures }
+    record { chain = grouped-more (in-loop .before .loop .inv) (in-loop .loop-test .taken); near = c .next-near2 .ensures }
 
 returns : tie.Need-returns Inv-loop μ-loop
-returns c = c .before .loop .inv .group
+returns c = grouped-all (c .before .loop .inv) (c .loop-test .left)
 
 pub group-end-spec : {M : Type 1} → statement M
 group-end-spec =

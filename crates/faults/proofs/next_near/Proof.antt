@@ -1,7 +1,6 @@
 -- One on, two on, or neither. Assumes nothing.
 use borrow.Author.Needs.{needs}
-use Rattle.faults.specs.Groups.{same}
-use Rattle.faults.proofs.Groups.{one-on, two-on}
+use Rattle.faults.proofs.Groups.{one-on, two-on, neither-on}
 use Rattle.faults.proofs.next_near.Statement.{statement}
 use Rattle.faults.proofs.next_near.Tie as tie
 
@@ -30,7 +29,8 @@ returns-2 : tie.Need-returns-2
 returns-2 c = two-on _ _ _ (c .before .before .before .is-fault .ensures) (c .before .before .if1 .left) (c .before .is-fault2 .ensures) (c .if2 .taken)
 
 returns-3 : tie.Need-returns-3
-returns-3 c = same
+returns-3 c =
+    neither-on _ _ _ (c .before .before .before .is-fault .ensures) (c .before .before .if1 .left) (c .before .is-fault2 .ensures) (c .if2 .left)
 
 pub next-near-spec : {M : Type 1} → statement M
 next-near-spec =

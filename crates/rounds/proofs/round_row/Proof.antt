@@ -4,9 +4,8 @@ use mathlib.Core.List.{List}
 use Prim.Native.Nat.{_≤_, _-_, ℕ}
 use native.Mathlib.Omega.{arith}
 use Rattle.mesh.specs.Mesh.{mesh, Mesh}
-use Rattle.nodes.proofs.Lookup.{at-fits}
+use Rattle.nodes.proofs.Lookup.{row-fits, at-fits}
 use Rattle.rounds.specs.Rounds.{RowAfter}
-use Rattle.nodes.proofs.Lookup.{row-fits}
 use Rattle.rounds.proofs.Rows.{row-none, row-more}
 use Rattle.rounds.proofs.round_row.Statement.{statement}
 use Rattle.rounds.proofs.round_row.Tie as tie
