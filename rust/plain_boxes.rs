@@ -12,7 +12,7 @@ pub fn fault_boxes(columns: u32, map: &[u8]) -> Vec<Corners> {
     faults.map(|(i, _)| [i / columns, i % columns, i / columns, i % columns]).collect()
 }
 
-/// Less than 3 apart in column and less than 2 apart in row, whichever box is further on.
+/// Less than 3 apart in column and less than 2 apart in row, in either direction.
 fn are_close(a: &Corners, b: &Corners) -> bool {
     a[1] < b[3] + 3 && b[1] < a[3] + 3 && a[0] < b[2] + 2 && b[0] < a[2] + 2
 }

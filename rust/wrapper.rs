@@ -266,9 +266,10 @@ impl Mesh<'_> {
 
     /// Blocks from rectangles: boxes around the faults, two that are close replaced by one until none are (c/pinduguil.h says when). Writes those
     /// that are left to the start of `list`, and answers them: the blocks, by lowest row, then lowest column. There must be an entry of `list` for
-    /// each fault, else it is refused by 10; of as many entries those after the last box become zeros. On a refusal nothing is written.
+    /// each fault, else it is refused by 10; of the first entries, one for each fault, those after the last box become zeros, and later ones are
+    /// left alone. On a refusal nothing is written.
     pub fn boxes<'o>(&self, list: &'o mut [Corners]) -> Result<&'o [Corners], Refusal> {
-        // Sound: two places are four numbers.
+        // Sound: two places are four numbers, and any four numbers are two places.
         let numbers = unsafe { std::slice::from_raw_parts_mut(list.as_mut_ptr().cast(), 4 * list.len()) };
         let boxes = answer(raw::boxes(self.columns, self.rows, self.map, numbers))?;
         Ok(&list[..boxes as usize])

@@ -1,14 +1,15 @@
 //! The operations on 64 x 64 (turning: on 64 x 2), the proved library against rust/plain_mesh.rs. A case is a list of calls; each checks and
 //! marks its map. All are on the first network but second-network, and picking, which routes on both. A table of sends is one call; singles-N
-//! sets it against as many single calls of the library. Boxes, against rust/plain_boxes.rs, check their map and mark nothing; marks-M sets them
-//! against the library's marking of the same map, which answers as many blocks. Letters to legs and back, against rust/plain_legs.rs, are one call
+//! sets it against as many single calls of the library. Boxes, against rust/plain_boxes.rs or speed/fast_boxes.rs, check their map and mark nothing;
+//! marks-M sets them against the library's marking of the same map, which answers as many blocks. Letters to legs and back, against rust/plain_legs.rs, are one call
 //! and have no map. Draws, against rust/plain_draw.rs or speed/fast_draw.rs, have none either: each call takes the next number.
 //!   operations CASE                   compares answers and output bytes; prints what was done, and then in one line the units of work in
 //!                                     the list and its nanoseconds, each call at its best, proved and plain
 //!   operations CASE proved|plain N    makes the first N calls and prints nothing, for counting instructions
 //! Cases: most-rounds, dense, judging, turning, either of these also with -nothing, one-map, second-network, many-maps, picking, moving,
-//! table-N, singles-N, draws-N, fast-draws-N, boxes-M and marks-M, where M is some, dense, all, most-rounds, far or tall, and by what is written
+//! table-N, singles-N, draws-N, fast-draws-N, boxes-M, fast-boxes-M and marks-M, where M is some, dense, all, most-rounds, far or tall, and by what is written
 //! legs-L and letters-L, where L is straight, mixed or turning. `speed/run` builds it and shows its figures.
+mod fast_boxes;
 mod fast_draw;
 #[path = "../rust/plain_boxes.rs"]
 mod plain_boxes;
@@ -101,6 +102,10 @@ fn proved_boxes(case: &Case, lent: &mut Lent) -> u32 {
 
 fn plain_boxes(case: &Case, lent: &mut Lent) -> u32 {
     plain_boxes::boxes(case.columns, case.rows, case.map(), &mut lent.list)
+}
+
+fn fast_boxes(case: &Case, lent: &mut Lent) -> u32 {
+    fast_boxes::boxes(case.columns, case.rows, case.map(), &mut lent.list)
 }
 
 fn proved_judge(case: &Case, lent: &mut Lent) -> u32 {
@@ -431,6 +436,7 @@ fn find_case(name: &str) -> Case {
         _ => match name.split_once('-') {
             Some(("boxes", map)) => boxing(&mut rng, map, plain_boxes),
             Some(("marks", map)) => boxing(&mut rng, map, proved_mark),
+            Some(("fast", name)) if name.starts_with("boxes-") => boxing(&mut rng, &name[6..], fast_boxes),
             _ => panic!("no case {}", name),
         },
     }
@@ -497,7 +503,7 @@ fn compare(name: &str, case: &Case) -> (String, u64) {
             let way = if name.starts_with("legs") { "letters to legs" } else { "legs to letters" };
             (format!("{way}: {letters} letters, a file of {file} bytes, both answer {last}, outputs equal"), letters as u64)
         }
-        _ if name.starts_with("boxes-") => (format!("{name}: {faults} faults, both answer {last}, lists equal"), calls as u64),
+        _ if name.contains("boxes-") => (format!("{name}: {faults} faults, both answer {last}, lists equal"), calls as u64),
         _ if name.starts_with("marks-") => (format!("{name}: {faults} faults, both answer {last}"), calls as u64),
         _ if name.contains("draws-") => {
             let draws = case.draws;

@@ -105,7 +105,7 @@ pub fn box_blocks(columns: u32, rows: u32, map: &[u8], list: &mut [u32]) -> Boxe
     if let Checked::Refused(why) = checked {
         return Boxed::Refused(why);
     }
-    let faults = count_faults(map);
+    let faults = count_faults(map) as usize;
     if list.len() < 4 * faults {
         return Boxed::Refused(Refusal::Room);
     }

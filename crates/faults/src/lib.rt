@@ -5,11 +5,12 @@ ghost use lib.ListN.{length};
 ghost use Rattle.mesh.specs.Nodes.{howMany};
 ghost use Rattle.faults.specs.Groups.{faultBefore, Near, Group};
 
-// The number of faults.
-pub fn count_faults(map: &[u8]) -> usize
+// The number of faults. In 32 bits more of them are counted at once.
+pub fn count_faults(map: &[u8]) -> u32
+    requires { ⌜ length (now map) ≤ 4096 ⌝ }
     ensures { λ n. ⌜ n ≡ howMany 1 (now (map .entry)) ⌝ }
 {
-    let mut n = 0;
+    let mut n: u32 = 0;
     let mut i = 0;
     while i < map.len() {
         if map[i] == 1 {

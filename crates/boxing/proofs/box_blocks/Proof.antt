@@ -1,7 +1,7 @@
 -- The refusals in order; then the faults merged, the boxes sorted, and zeros after them. Assumes nothing.
 use native.Mathlib.Omega.{arith}
 use Rattle.mesh.proofs.Tests.{told-clear}
-use Rattle.maps.proofs.Checks.{clear-sized}
+use Rattle.maps.proofs.Checks.{clear-sized, clear-few}
 use Rattle.boxing.proofs.Boxing.{map-refused, few, room-refused, ready, fewer, sort-room, clear-room, boxes-done}
 use borrow.Author.Needs.{needs}
 use Rattle.boxing.proofs.box_blocks.Statement.{statement}
@@ -20,13 +20,13 @@ enum-told : tie.Need-enum-told
 enum-told c = search needs
 
 count-faults-requires : tie.Need-count-faults-requires
-count-faults-requires c κs = search needs
+count-faults-requires c κs = clear-few _ _ _ (told-clear _ (c .enum-told .given .1) (c .before .before .check-map .ensures))
+
+cast-faults : tie.Need-cast-faults
+cast-faults c = search needs
 
 mul-if1 : tie.Need-mul-if1
-mul-if1 c =
-    let told = c .before in
-    let clear = told-clear _ (told .enum-told .given .1) (told .before .before .check-map .ensures) in
-    omega (arith, few _ _ _ clear (c .count-faults .ensures))
+mul-if1 c = search needs
 
 returns-2 : tie.Need-returns-2
 returns-2 c =
@@ -76,8 +76,8 @@ clear-requires c κs =
     clear-room _ _ _ _ clear (counted .count-faults .ensures) (fits .if1 .left) (merged .merge-faults .ensures) (sorts .sort .ensures) in
     (omega (arith, fewer), omega (arith, enough))
 
-cast-t20 : tie.Need-cast-t20
-cast-t20 c =
+cast-t9 : tie.Need-cast-t9
+cast-t9 c =
     let merged = c .before .before .before .before .before .before .before .before .before .before in
     let fits = merged .before .before in
     let counted = fits .before in
@@ -110,6 +110,7 @@ box-blocks-spec =
     returns
     enum-told
     count-faults-requires
+    cast-faults
     mul-if1
     returns-2
     merge-faults-requires
@@ -117,6 +118,6 @@ box-blocks-spec =
     mul-clear
     mul-clear-2
     clear-requires
-    cast-t20
+    cast-t9
     same-length
     returns-3)
