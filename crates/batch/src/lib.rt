@@ -1,4 +1,6 @@
 // The operation "A whole table of sends": routes on one map, which is checked and marked once.
+#![tactic(auto)]
+
 ghost use Rattle.std.specs.Prelude.{◌≡◌, false, ◌≤◌, length};
 ghost use Rattle.mesh.specs.Mesh.{mesh};
 ghost use Rattle.blocks.specs.Marking.{Marking};

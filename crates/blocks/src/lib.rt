@@ -1,4 +1,6 @@
 // The blocks of a marking: their number, and whether one is near.
+#![tactic(auto)]
+
 ghost use Rattle.std.specs.Prelude.{◌≡◌, false, ◌||◌, ◌<◌, ◌*◌, ◌/◌, ◌%◌, length};
 ghost use Rattle.mesh.specs.declared.Heading.TheVariants.{East, West};
 ghost use Rattle.mesh.specs.Mesh.{mesh};

@@ -1,4 +1,6 @@
 // Blocks from rectangles (document 02, E10): boxes round the faults, merged where they are close.
+#![tactic(auto)]
+
 ghost use Rattle.std.specs.Prelude.{◌*◌, ◌≤◌, ◌<◌, length};
 ghost use Rattle.mesh.specs.Mesh.{mesh};
 ghost use Rattle.nodes.specs.Sized.{Sized};
@@ -13,7 +15,7 @@ use mesh::{Checked, Column, Refusal, Row};
 use theory_boxes::Boxed;
 
 // How many boxes there are, and the index of the map from which on faults are still to be merged.
-#[derive(Drop)]
+#[derive(Clone, Copy)]
 pub struct Step {
     pub boxes: usize,
     pub next: usize,

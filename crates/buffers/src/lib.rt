@@ -1,4 +1,6 @@
 // Bytes written into a lent buffer, and a number into a lent list.
+#![tactic(auto)]
+
 ghost use Rattle.std.specs.Prelude.{◌≡◌, [], ◌∷◌, ◌≤◌, ◌<◌, ◌+◌, min, length, replicate};
 ghost use Rattle.buffers.specs.Over.{over, Puts, put_first};
 

@@ -1,4 +1,6 @@
 // Drawing a map by number (document 02, E8).
+#![tactic(auto)]
+
 ghost use Rattle.std.specs.Prelude.{◌≡◌, ◌<◌, length};
 ghost use Rattle.theory_draw.specs.Draws.{index_of};
 ghost use Rattle.theory_draw.specs.Drawing.{bad_draws, DrawsMap};

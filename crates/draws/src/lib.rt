@@ -1,4 +1,6 @@
 // Draws by number (document 02, E8): the next state, and the place that it picks.
+#![tactic(auto)]
+
 ghost use Rattle.std.specs.Prelude.{◌≡◌, ◌*◌, ◌%◌, ◌^◌, ◌≤◌};
 ghost use Rattle.theory_draw.specs.Draws.{next_state, picked, picked_place};
 

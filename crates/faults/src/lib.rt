@@ -1,4 +1,6 @@
 // The faults of a map: how many there are, and which of a row are close to each other.
+#![tactic(auto)]
+
 ghost use Rattle.std.specs.Prelude.{◌≡◌, ◌≤◌, ◌<◌, length};
 ghost use Rattle.mesh.specs.Nodes.{how_many};
 ghost use Rattle.faults.specs.Groups.{fault_before, Near, Group};

@@ -1,4 +1,6 @@
 // The numbers of a file of legs, groups of seven bits: written and read.
+#![tactic(auto)]
+
 ghost use Rattle.std.specs.Prelude.{◌≡◌, ◌≤◌, ◌<◌, ◌+◌, length};
 ghost use Rattle.buffers.specs.Over.{Puts};
 ghost use Rattle.theory_legs.specs.Groups.{number_bytes};
@@ -36,7 +38,7 @@ pub fn number_size(n: usize) -> usize
 }
 
 // A number of a file, with the index after it; or why there is none: it is cut short, or too large or with a needless group.
-#[derive(Drop)]
+#[derive(Clone, Copy)]
 pub enum Number {
     Value(u32, usize),
     CutShort,

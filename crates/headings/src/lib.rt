@@ -1,4 +1,6 @@
 // Headings: their letters, their codes, and last hops in numbers.
+#![tactic(auto)]
+
 ghost use Rattle.std.specs.Prelude.{◌≡◌, ◌||◌};
 ghost use Rattle.mesh.specs.declared.Heading.TheVariants.{North, South};
 ghost use Rattle.mesh.specs.Headings.{letter, same, last_is, named, code, direction, heading_number, last_number, last_of};

@@ -1,4 +1,6 @@
 // A packet's hop: whether it is lawful, and the packet after it.
+#![tactic(auto)]
+
 ghost use Rattle.std.specs.Prelude.{◌≡◌, ◌≤◌, ◌<◌};
 ghost use Rattle.mesh.specs.declared.Heading.TheVariants.{South, West};
 ghost use Rattle.mesh.specs.Mesh.{mesh};

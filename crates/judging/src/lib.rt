@@ -1,4 +1,6 @@
 // The operation "Judge a hand-in".
+#![tactic(auto)]
+
 ghost use Rattle.std.specs.Prelude.{◌≡◌};
 ghost use Rattle.mesh.specs.declared.Network.TheVariants.{First, Second};
 ghost use Rattle.mesh.specs.Mesh.{mesh};

@@ -1,4 +1,6 @@
 // Fault maps: refusals 1 to 5, which every operation tests first.
+#![tactic(auto)]
+
 ghost use Rattle.std.specs.Prelude.{◌≡◌, ◌*◌, ◌≤◌, ◌<◌};
 ghost use Rattle.mesh.specs.Tests.{first};
 ghost use Rattle.mesh.specs.Numbers.{checked_number};

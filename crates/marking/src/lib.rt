@@ -1,4 +1,6 @@
 // The marking of a fault map, and the operation "Mark blocks".
+#![tactic(auto)]
+
 ghost use Rattle.std.specs.Prelude.{◌≤◌, length};
 ghost use Rattle.mesh.specs.Marking.{MarksBlocks};
 ghost use Rattle.marking.specs.Marks.{MarksMap};

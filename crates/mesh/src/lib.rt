@@ -1,20 +1,21 @@
 // The types of the routing exercise. What they mean, and every rule of document 01, is defined in specs/.
+#![tactic(auto)]
 
 // A row number and a column number. They are kept apart, so that neither can be handed over for the other.
-#[derive(Drop)]
+#[derive(Clone, Copy)]
 pub struct Row(pub u32);
 
-#[derive(Drop)]
+#[derive(Clone, Copy)]
 pub struct Column(pub u32);
 
-#[derive(Drop)]
+#[derive(Clone, Copy)]
 pub struct Place {
     pub row: Row,
     pub column: Column,
 }
 
 // The direction of a hop: east raises the column, north raises the row.
-#[derive(Drop)]
+#[derive(Clone, Copy)]
 pub enum Heading {
     East,
     North,
@@ -23,20 +24,20 @@ pub enum Heading {
 }
 
 // Which turns are forbidden in odd columns, and which in even ones: on the second network the two are exchanged.
-#[derive(Drop)]
+#[derive(Clone, Copy)]
 pub enum Network {
     First,
     Second,
 }
 
 // A packet's last hop.
-#[derive(Drop)]
+#[derive(Clone, Copy)]
 pub enum Last {
     None,
     Made(Heading),
 }
 
-#[derive(Drop)]
+#[derive(Clone, Copy)]
 pub struct Packet {
     pub place: Place,
     pub last: Last,
@@ -44,7 +45,7 @@ pub struct Packet {
 }
 
 // The refusals, in the order of their numbers (specs/Numbers.antt): 1 to 10.
-#[derive(Drop)]
+#[derive(Clone, Copy)]
 pub enum Refusal {
     Columns,
     Rows,
@@ -59,21 +60,21 @@ pub enum Refusal {
 }
 
 // Whether some of the refusals apply.
-#[derive(Drop)]
+#[derive(Clone, Copy)]
 pub enum Checked {
     Clear,
     Refused(Refusal),
 }
 
 // What a byte of a hand-in says.
-#[derive(Drop)]
+#[derive(Clone, Copy)]
 pub enum Letter {
     Hop(Heading),
     Other,
 }
 
 // Which rule of document 001 a turn breaks: rule 1 is about EN and NW, rule 2 about ES and SW.
-#[derive(Drop)]
+#[derive(Clone, Copy)]
 pub enum Broken {
     Neither,
     Rule1,
@@ -81,7 +82,7 @@ pub enum Broken {
 }
 
 // What is wrong with a hand-in, in the order in which it is tested. Their numbers (specs/Numbers.antt) are 11 to 17.
-#[derive(Drop)]
+#[derive(Clone, Copy)]
 pub enum Mistake {
     NoLetter,
     LeavesMesh,
@@ -93,28 +94,28 @@ pub enum Mistake {
 }
 
 // Whether a hop is lawful, and the packet after it.
-#[derive(Drop)]
+#[derive(Clone, Copy)]
 pub enum Tested {
     Lawful(Packet),
     Wrong(Mistake),
 }
 
 // What marking the blocks answers: their number, and how many rounds the marking took.
-#[derive(Drop)]
+#[derive(Clone, Copy)]
 pub enum Marked {
     Blocks(u32, u32),
     Refused(Refusal),
 }
 
 // What routing answers.
-#[derive(Drop)]
+#[derive(Clone, Copy)]
 pub enum Routed {
     Hops(u32),
     Refused(Refusal),
 }
 
 // What judging answers: the length, or what is wrong and the index of that letter.
-#[derive(Drop)]
+#[derive(Clone, Copy)]
 pub enum Judged {
     Passed(usize),
     Failed(Mistake, usize),
@@ -122,7 +123,7 @@ pub enum Judged {
 }
 
 // What moving on answers.
-#[derive(Drop)]
+#[derive(Clone, Copy)]
 pub enum Moved {
     Hop(Heading),
     Arrived,
@@ -130,7 +131,7 @@ pub enum Moved {
 }
 
 // A packet's record after moving on, with the answer.
-#[derive(Drop)]
+#[derive(Clone, Copy)]
 pub struct Stepped {
     pub packet: Packet,
     pub moved: Moved,

@@ -1,4 +1,6 @@
 // The operation "Move on", on a record that is lent.
+#![tactic(auto)]
+
 ghost use Rattle.mesh.specs.Moving.{MovesOn};
 
 use mesh::{Moved, Network, Packet, Stepped};

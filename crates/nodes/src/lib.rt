@@ -1,4 +1,6 @@
 // The nodes of a map or a marking: which are bad, which the rules make unsafe, and what each becomes in a round.
+#![tactic(auto)]
+
 ghost use Rattle.std.specs.Prelude.{◌≡◌, ◌<◌};
 ghost use Rattle.mesh.specs.Mesh.{mesh};
 ghost use Rattle.mesh.specs.Nodes.{bad, ahead, upright, unsafe};

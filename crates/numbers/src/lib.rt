@@ -1,5 +1,7 @@
 // Numbers for places and networks, and the papers' numbers for answers: refusals, mistakes in a hand-in, and what an operation returns as one
 // number.
+#![tactic(auto)]
+
 ghost use Rattle.std.specs.Prelude.{◌≡◌};
 ghost use Rattle.mesh.specs.Mesh.{place};
 ghost use Rattle.mesh.specs.Numbers.{number, mistake_number, network_number, is_network, network_of, refusal_code, answer_code};

@@ -1,4 +1,6 @@
 // Odd and even columns, which the second network exchanges. No other code tells them apart.
+#![tactic(auto)]
+
 ghost use Rattle.std.specs.Prelude.{◌≡◌};
 ghost use Rattle.mesh.specs.Parity.{remainder, turns_west};
 

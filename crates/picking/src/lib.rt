@@ -1,4 +1,6 @@
 // The operation "Pick": routes on both networks, each into a buffer of its own, and the better of the two.
+#![tactic(auto)]
+
 ghost use Rattle.std.specs.Prelude.{◌≡◌};
 ghost use Rattle.mesh.specs.Mesh.{mesh};
 ghost use Rattle.mesh.specs.Routing.{routed_answer};

@@ -1,4 +1,6 @@
 // Refusals 6 to 9: the source and the destination of a request on a marking.
+#![tactic(auto)]
+
 ghost use Rattle.std.specs.Prelude.{◌≡◌, List, ℕ};
 ghost use Rattle.mesh.specs.Mesh.{mesh};
 ghost use Rattle.mesh.specs.Tests.{first};

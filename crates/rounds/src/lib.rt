@@ -1,4 +1,6 @@
 // The marking of unsafe nodes, in rounds as the definition goes.
+#![tactic(auto)]
+
 ghost use Rattle.std.specs.Prelude.{◌≡◌, ◌≤◌, ◌<◌, length};
 ghost use Rattle.mesh.specs.Mesh.{mesh};
 ghost use Rattle.mesh.specs.Nodes.{bad};

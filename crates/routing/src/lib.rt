@@ -1,4 +1,6 @@
 // The operation "Route".
+#![tactic(auto)]
+
 ghost use Rattle.mesh.specs.Mesh.{mesh};
 ghost use Rattle.mesh.specs.Routing.{Routes};
 ghost use Rattle.blocks.specs.Marking.{Marking};

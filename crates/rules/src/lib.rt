@@ -1,4 +1,6 @@
 // The hop rules.
+#![tactic(auto)]
+
 ghost use Rattle.std.specs.Prelude.{◌≡◌, false, ◌&&◌};
 ghost use Rattle.mesh.specs.declared.Last.TheVariants.{Made};
 ghost use Rattle.mesh.specs.declared.Network.{Network};

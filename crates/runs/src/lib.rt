@@ -1,4 +1,6 @@
 // Where a run of equal bytes ends.
+#![tactic(auto)]
+
 ghost use Rattle.std.specs.Prelude.{◌≡◌, ◌&&◌, ◌≤◌, ◌<◌, ◌+◌, min, length};
 ghost use Rattle.runs.specs.Equal.{Same, Tells, Skips, Run};
 

@@ -1,4 +1,6 @@
 // Sends: the list of them, four numbers each, and Route for one with the output that is free.
+#![tactic(auto)]
+
 ghost use Rattle.std.specs.Prelude.{◌≡◌, ◌≤◌, ◌<◌, ◌+◌, ◌*◌, length};
 ghost use Rattle.mesh.specs.Mesh.{mesh};
 ghost use Rattle.blocks.specs.Marking.{Marking};

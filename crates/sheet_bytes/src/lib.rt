@@ -1,4 +1,6 @@
 // A sheet being read: where it stands, and what its next bytes say.
+#![tactic(auto)]
+
 ghost use Rattle.std.specs.Prelude.{◌≡◌, ℕ, ◌≤◌, length};
 ghost use Rattle.sheet_bytes.specs.declared.Found.TheVariants.{Line};
 ghost use Rattle.sheet_bytes.specs.Reading.{next_line, Begins};
@@ -9,7 +11,7 @@ use sheet_words::{Command, read_line};
 use theory_sheet::Phase;
 
 // Where a sheet stands: what the lines before this one have said, its number, how many bytes of it are held, and whether the run is over.
-#[derive(Drop)]
+#[derive(Clone, Copy)]
 pub struct Standing {
     pub sheet: Sheet,
     pub number: u32,
@@ -18,28 +20,28 @@ pub struct Standing {
 }
 
 // A sheet being read, with the bytes that are held.
-#[derive(Drop)]
+#[derive(Clone, Copy)]
 pub struct Reader {
     pub standing: Standing,
     pub hold: [u8; 20],
 }
 
 // What was read: a line, or a byte of one that is held.
-#[derive(Drop)]
+#[derive(Clone, Copy)]
 pub enum Read {
     Line(Command),
     Part,
 }
 
 // What was read, and how many bytes it took.
-#[derive(Drop)]
+#[derive(Clone, Copy)]
 pub struct Next {
     pub read: Read,
     pub taken: usize,
 }
 
 // How many bytes a whole line has before its newline.
-#[derive(Drop)]
+#[derive(Clone, Copy)]
 enum Found {
     Line(usize),
     Nothing,

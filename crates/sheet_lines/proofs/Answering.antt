@@ -1,12 +1,9 @@
 -- A line is answered by what it changes, what that prints, and the answer to a send on the map as it then is. Assumes nothing.
 use mathlib.Core.Path.{◌≡◌, refl, sym, ap, ◌∙◌}
-use mathlib.Core.Logic.{inl, inr}
 use mathlib.Core.Bool.{Bool, true, false}
-use mathlib.Core.List.{List, [], ◌∷◌, append-nil}
+use mathlib.Core.List.{List, [], append-nil}
 use Prim.Native.Nat.{ℕ, ◌+◌, ◌≤◌, ◌<◌}
 use native.Mathlib.Omega.{arith}
-use types.Run.{OneOf}
-use denote.Enum.Declared.{tag_of}
 use lib.ListN.{length}
 use Rattle.mesh.specs.declared.Place.{Place}
 use Rattle.mesh.specs.Mesh.{Mesh as MeshOf, mesh}
@@ -16,7 +13,6 @@ use Rattle.buffers.proofs.Over.{puts-append, over-length}
 use Rattle.blocks.specs.Marking.{Marking}
 use Rattle.sheet_words.specs.declared.Command.{Command}
 use Rattle.sheet_words.specs.declared.Command.TheVariants.{Mesh, Fault, Send, Malformed}
-use Rattle.sheet_words.specs.contracts.Command.{the_type}
 use Rattle.sheet_prints.specs.Prints.{line_word, no_word, blocks_word}
 use Rattle.sheet_prints.proofs.Lines.{line-length}
 use Rattle.theory_sheet.specs.declared.Phase.TheVariants.{Sends}
@@ -36,13 +32,11 @@ says-short n (Blocks j) h k = omega (arith, line-length blocks_word j k)
 says-short n Nothing h k = omega arith
 
 -- only a send is answered
-no_answer : (w : MeshOf) (c : Command) → OneOf (0 ∷ 1 ∷ 3 ∷ []) (tag_of the_type c) → answer_to w c ≡ []
+no_answer : (w : MeshOf) (c : Command) → ((p q : Place) → c ≡ Send p q → ⊥) → answer_to w c ≡ []
 unfolding answer_to
 no_answer w (Mesh columns rows) h = refl
 no_answer w (Fault p) h = refl
-no_answer w (Send s d) (inl e) = absurd (omega arith)
-no_answer w (Send s d) (inr (inl e)) = absurd (omega arith)
-no_answer w (Send s d) (inr (inr e)) = absurd (omega arith)
+no_answer w (Send s d) h = absurd (h s d refl)
 no_answer w Malformed h = refl
 
 -- line n says c, which changes the sheet to x
@@ -59,7 +53,7 @@ module _ (n : ℕ) (s : Sheet) (map : List ℕ) (c : Command) {x : Change} {map'
         (record { puts = told; ends = refl; next = refl; ready = λ f. true-false refl f })
 
     module _ (f : b ≡ false) where
-      pub not-a-send : OneOf (0 ∷ 1 ∷ 3 ∷ []) (tag_of the_type c) → Answers (command_step n (state_of s map) c) out at (record { sheet = x.sheet; at = y; ends = false }) map' after
+      pub not-a-send : ((p q : Place) → c ≡ Send p q → ⊥) → Answers (command_step n (state_of s map) c) out at (record { sheet = x.sheet; at = y; ends = false }) map' after
       unfolding answering
       not-a-send h =
           rw (line-changes, sym is_b ∙ f, no_answer _ c h, append-nil)

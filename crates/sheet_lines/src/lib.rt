@@ -1,4 +1,6 @@
 // A line of a sheet, answered, and the end of a sheet.
+#![tactic(auto)]
+
 ghost use Rattle.std.specs.Prelude.{◌≡◌, ◌+◌, ◌≤◌, ◌<◌, length};
 ghost use Rattle.mesh.specs.Mesh.{mesh};
 ghost use Rattle.theory_walk.specs.Claims.{most_hops};
@@ -20,7 +22,7 @@ use walk::MOST_HOPS;
 pub const ANSWER_ROOM: usize = MOST_HOPS + 26;
 
 // A line answered: what has been said now, the index after what is printed, and whether the run is over.
-#[derive(Drop)]
+#[derive(Clone, Copy)]
 pub struct Answered {
     pub sheet: Sheet,
     pub at: usize,

@@ -1,5 +1,7 @@
 // The lines that a sheet's answers are printed as, written into a lent buffer.
 // Each function answers the index after what it wrote. Numbers have at most five digits.
+#![tactic(auto)]
+
 ghost use Rattle.std.specs.Prelude.{◌≤◌, ◌<◌, ◌+◌, length};
 ghost use Rattle.buffers.specs.Over.{Puts};
 ghost use Rattle.sheet_prints.specs.Prints.{decimal, line, blocks_word, no_word, line_word, spaced_letters, ok_line};

@@ -1,4 +1,6 @@
 // A sheet, read in pieces of any size.
+#![tactic(auto)]
+
 ghost use Rattle.std.specs.Prelude.{◌≡◌, false, ◌+◌, ◌≤◌, ◌<◌, length};
 ghost use Rattle.theory_walk.specs.Claims.{most_hops};
 ghost use Rattle.buffers.specs.Over.{Puts};
@@ -14,7 +16,7 @@ use sheet_prints::put_bad_line;
 use walk::MOST_HOPS;
 
 // A reader after some bytes, the index after what is printed, and how many bytes were taken.
-#[derive(Drop)]
+#[derive(Clone, Copy)]
 pub struct Taken {
     pub reader: Reader,
     pub at: usize,
@@ -22,7 +24,7 @@ pub struct Taken {
 }
 
 // Where a sheet stands after what was read, and the index after what is printed.
-#[derive(Drop)]
+#[derive(Clone, Copy)]
 struct Advance {
     standing: Standing,
     at: usize,

@@ -1,4 +1,6 @@
 // What a line of a sheet changes, and what it prints before any answer to a send.
+#![tactic(auto)]
+
 ghost use Rattle.std.specs.Prelude.{◌≡◌};
 ghost use Rattle.theory_sheet.specs.Sheet.{mesh_line, fault_line, opening, change};
 ghost use Rattle.theory_sheet.specs.declared.Phase.TheVariants.{Start, Faults};
@@ -13,7 +15,7 @@ use sheet_words::Command;
 use theory_sheet::Phase;
 
 // What the lines so far have said, but for the map, which is lent.
-#[derive(Drop)]
+#[derive(Clone, Copy)]
 pub struct Sheet {
     pub phase: Phase,
     pub columns: u32,
@@ -21,7 +23,7 @@ pub struct Sheet {
 }
 
 // What a line prints: that it is bad, the number of a refusal, the number of blocks, or nothing.
-#[derive(Drop)]
+#[derive(Clone, Copy)]
 pub enum Says {
     BadLine,
     Refusal(u32),
@@ -30,7 +32,7 @@ pub enum Says {
 }
 
 // What has been said after a line, and what it prints.
-#[derive(Drop)]
+#[derive(Clone, Copy)]
 pub struct Change {
     pub sheet: Sheet,
     pub says: Says,

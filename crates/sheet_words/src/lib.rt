@@ -1,4 +1,6 @@
 // The lines of a sheet, as commands.
+#![tactic(auto)]
+
 ghost use Rattle.std.specs.Prelude.{◌≡◌, true, ◌+◌, ◌-◌, ◌*◌, ◌^◌, ◌≤◌};
 ghost use Rattle.sheet_words.specs.Words.{is_digit, begins, sizes, fault, send_to, send, command, command_at};
 ghost use Rattle.sheet_words.specs.Reading.{number_of, two_of, more_at, spaced_at, two_at, last_at};
@@ -7,7 +9,7 @@ use mesh::Place;
 use numbers::place_of;
 
 // What a line says. Its numbers have one to three digits; whether they fit the mesh is not asked here.
-#[derive(Drop)]
+#[derive(Clone, Copy)]
 pub enum Command {
     Mesh(u32, u32),
     Fault(Place),
@@ -16,14 +18,14 @@ pub enum Command {
 }
 
 // A number that was read, and the index after it.
-#[derive(Drop)]
+#[derive(Clone, Copy)]
 enum Spelled {
     Nothing,
     Number(u32, usize),
 }
 
 // Two numbers that were read, and the index after the second.
-#[derive(Drop)]
+#[derive(Clone, Copy)]
 enum Both {
     Nothing,
     Two(u32, u32, usize),

@@ -1,4 +1,6 @@
 // One hop of a packet, from record to record: what "Move on" does, by value.
+#![tactic(auto)]
+
 ghost use Rattle.std.specs.Prelude.{◌≡◌, false};
 ghost use Rattle.mesh.specs.Mesh.{mesh};
 ghost use Rattle.mesh.specs.Tests.{first};

@@ -1,5 +1,5 @@
--- The bound on the detours round all blocks. Grow each block by the row south of it and the two columns west of it: the grown blocks share
--- no place and leave the mesh's last row and last two columns free, and no block's detour exceeds the places of the grown one. Assumes nothing.
+-- Grow each block by the row south of it and the two columns west of it: the grown blocks share no place and leave the mesh's last row and last
+-- two columns free, and no block's detour exceeds the places of the grown one. Assumes nothing.
 use mathlib.Core.Path.{◌≡◌, refl}
 use mathlib.Core.Bool.{Bool, true, false}
 use mathlib.Core.List.Memᴰ
@@ -15,19 +15,19 @@ use Rattle.theory_blocks.proofs.Rings.{reaches-told, reaches-true, reaches-false
 use Rattle.theory_blocks.proofs.Apart.{pairs-map}
 
 -- b with the row south of it and the two columns west of it
-grown : Block → Block
+unfoldable pub grown : Block → Block
 grown b = record { row = b.row - 1; column = b.column - 2; height = b.height + 1; width = b.width + 2 }
 
 -- the places of all grown blocks
-area : List Block → ℕ
+pub area : List Block → ℕ
 area [] = 0
 area (b ∷ bs) = (grown b).height * (grown b).width + area bs
 
 -- a and b, grown, share no place
-record Disjoint (a b : Block) : Type 0 where
+pub record Disjoint (a b : Block) : Type 0 where
   pub disjoint : (x y : ℕ) → Within (grown a) x y → Within (grown b) x y → ⊥
 
-apart-disjoint : {columns rows : ℕ} {a b : Block} → Fits columns rows a → Fits columns rows b → Apart a b → Disjoint a b
+pub apart-disjoint : {columns rows : ℕ} {a b : Block} → Fits columns rows a → Fits columns rows b → Apart a b → Disjoint a b
 unfolding grown
 apart-disjoint p q (by-east h) = record { disjoint = λ x y i j. omega arith }
 apart-disjoint p q (by-west h) = record { disjoint = λ x y i j. omega arith }
@@ -35,7 +35,7 @@ apart-disjoint p q (by-north h) = record { disjoint = λ x y i j. omega arith }
 apart-disjoint p q (by-south h) = record { disjoint = λ x y i j. omega arith }
 
 -- f 0 + .. + f (n - 1)
-sum : ℕ → (ℕ → ℕ) → ℕ
+pub sum : ℕ → (ℕ → ℕ) → ℕ
 sum zero f = 0
 sum (suc n) f = sum n f + f n
 
@@ -52,7 +52,7 @@ sum-at-least v a f (suc n) (suc k) h m =
           omega arith
     ]
 
-sum-at-most : (v : ℕ) (f : ℕ → ℕ) (n : ℕ) → ((i : ℕ) → f i ≤ v) → sum n f ≤ n * v
+pub sum-at-most : (v : ℕ) (f : ℕ → ℕ) (n : ℕ) → ((i : ℕ) → f i ≤ v) → sum n f ≤ n * v
 unfolding sum
 sum-at-most v f zero m = omega arith
 sum-at-most v f (suc n) m = omega (arith, sum-at-most v f n m, m n)
@@ -86,13 +86,13 @@ module _ (b : Block) (x y : ℕ) where
   share-none h = rw (reaches-false 0 0 (grown b) x y h)
 
 -- g x y tells how many grown blocks may hold (x, y)
-record Room (columns rows : ℕ) (g : ℕ → ℕ → ℕ) (b : Block) : Type 0 where
+pub record Room (columns rows : ℕ) (g : ℕ → ℕ → ℕ) (b : Block) : Type 0 where
   pub high : (grown b).height + (grown b).row ≤ rows
   pub wide : (grown b).width + (grown b).column ≤ columns
   pub room : (x y : ℕ) → Within (grown b) x y → 1 ≤ g x y
 
 module _ (columns rows : ℕ) where
-  area-fits : (bs : List Block) → Pairs Disjoint bs → (g : ℕ → ℕ → ℕ) → ((b : Block) → Listed b bs → Room columns rows g b) →
+  pub area-fits : (bs : List Block) → Pairs Disjoint bs → (g : ℕ → ℕ → ℕ) → ((b : Block) → Listed b bs → Room columns rows g b) →
       area bs ≤ sum rows (λ x. sum columns (g x))
   unfolding area share
   area-fits [] p g m = omega arith
@@ -119,7 +119,7 @@ module _ (columns rows : ℕ) where
       (λ y. one-room (reaches 0 0 (grown b) x y) (g x y) (λ t. r.room x y (reaches-told 0 0 (grown b) x y t)))) in
       omega arith
 
-detours-area : (bs : List Block) → ((b : Block) → Listed b bs → 0 < b.height) → detours bs ≤ area bs
+pub detours-area : (bs : List Block) → ((b : Block) → Listed b bs → 0 < b.height) → detours bs ≤ area bs
 unfolding detours area grown
 detours-area [] m = omega arith
 detours-area (b ∷ bs) m =
@@ -129,19 +129,3 @@ detours-area (b ∷ bs) m =
     detour-area : (h w : ℕ) → 0 < h → 2 * (w + h + 1) ≤ (h + 1) * (w + 2)
     detour-area zero w p = absurd (omega arith)
     detour-area (suc h) w p = omega arith
-
-pub detours-bounded : {columns rows : ℕ} {B : ℕ → ℕ → Bool} {bs : List Block} → Obstacles columns rows B bs → detours bs ≤ (columns - 2) * (rows - 1)
-unfolding grown
-detours-bounded {columns} {rows} {B} {bs} O =
-    let i = detours-area bs (λ b m. (O.walled b m).tall) in
-    let j =
-    area-fits (columns - 2) (rows - 1) bs
-    (pairs-map bs (λ a b m n. apart-disjoint (O.fits a m) (O.fits b n)) O.apart)
-    (λ x y. 1)
-    (λ b m.
-    let f = O.fits b m in
-    record { high = omega arith; wide = omega arith; room = λ x y u. omega arith }) in
-    let u =
-    sum-at-most ((columns - 2) * 1) (λ x. sum (columns - 2) (λ y. 1)) (rows - 1)
-    (λ x. sum-at-most 1 (λ y. 1) (columns - 2) (λ y. omega arith)) in
-    omega arith

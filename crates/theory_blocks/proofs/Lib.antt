@@ -11,4 +11,5 @@ pub mod Listed
 pub mod Margins
 pub mod Near
 pub mod Area
+pub mod Detours
 pub mod Theorems

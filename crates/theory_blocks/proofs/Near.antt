@@ -43,7 +43,7 @@ module _ {columns rows : ℕ} {B : ℕ → ℕ → Bool} {bs : List Block} (O : 
       (nearby-in (within b r) (B r) (λ y h. (O.walled b k.listed).inside r y (reaches-told 0 0 b r y h)) (near-told (within b) r c k.passes)))
       (λ e.
       let n = near-told B r c e in
-      let h = O.in_block r n.place n.here in
+      let h = O.in-block r n.place n.here in
       let here = reaches-true 0 0 h.block r n.place h.within in
       some_block-true _ bs h.block h.listed
       (near-true (within h.block) r c (record { place = n.place; here = here; other = n.other; low = n.low; high = n.high })))

@@ -29,7 +29,7 @@ use Rattle.theory_blocks.proofs.Listed.{blocks-walled, bad-in-block, blocks-apar
 use Rattle.theory_blocks.proofs.Margins.{allowed-closed, walled-fits}
 use Rattle.theory_blocks.proofs.Rings.{on_ring-told, on_ring-true}
 use Rattle.theory_blocks.proofs.Near.{near-blocks, near-sides}
-use Rattle.theory_blocks.proofs.Area.{detours-bounded}
+use Rattle.theory_blocks.proofs.Detours.{detours-bounded}
 
 -- The ring that computes is the ring.
 pub ring-computes : (b : Block) (x y : ℕ) → on_ring b x y ≡ true ↔ OnRing b x y
@@ -72,15 +72,15 @@ module _ (w : Mesh) (size : length w.map ≡ w.columns * w.rows) where
   -- every block (a connected set of bad nodes to which no further one is joined) is a listed rectangle
   pub blocks-are-rectangles : {Set : ℕ → ℕ → Type 0} → IsBlock (bad (marked w)) Set → IsListed (blocks (marked w)) Set
   blocks-are-rectangles =
-      block_listed (blocks-walled (marked w) marking-is-closed) (bad-in-block (marked w) marking-is-closed)
+      block_listed (blocks-walled (marked w) (marked-closed w size)) (bad-in-block (marked w) (marked-closed w size))
 
   -- every listed rectangle is a block
   pub listed-are-blocks : (b : Block) → Listed b (blocks (marked w)) → IsBlock (bad (marked w)) (Within b)
-  listed-are-blocks b m = walled-block (blocks-walled (marked w) marking-is-closed b m)
+  listed-are-blocks b m = walled-block (blocks-walled (marked w) (marked-closed w size) b m)
 
   -- at least 3 apart in column number or 2 in row number: each from each later one
   pub blocks-are-apart : Pairs Apart (blocks (marked w))
-  blocks-are-apart = blocks-apart (marked w) marking-is-closed
+  blocks-are-apart = blocks-apart (marked w) (marked-closed w size)
 
   -- and any two
   pub any-blocks-are-apart : (a b : Block) → Listed a (blocks (marked w)) → Listed b (blocks (marked w)) → (a ≡ b) ⊎ Apart a b
@@ -88,18 +88,18 @@ module _ (w : Mesh) (size : length w.map ≡ w.columns * w.rows) where
 
   -- no listed block is joined to a later one: the list's length is the number of blocks
   pub each-block-once : Pairs (Unjoined (bad (marked w))) (blocks (marked w))
-  each-block-once = apart-unjoined (blocks-walled (marked w) marking-is-closed) blocks-are-apart
+  each-block-once = apart-unjoined (blocks-walled (marked w) (marked-closed w size)) blocks-are-apart
 
   -- no place of a ring is bad
   pub ring-is-free : (b : Block) → Listed b (blocks (marked w)) → (x y : ℕ) → OnRing b x y → bad (marked w) x y ≡ false
-  ring-is-free b m = (blocks-walled (marked w) marking-is-closed b m).ring
+  ring-is-free b m = (blocks-walled (marked w) (marked-closed w size) b m).ring
 
   -- faults in the allowed places only: every ring fits the mesh
   pub rings-fit : Holds (bad w) (allowed w.columns w.rows) → (b : Block) → Listed b (blocks (marked w)) → Fits w.columns w.rows b
   rings-fit placed b m =
       walled-fits w.columns w.rows
-      (marking-is-least (allowed w.columns w.rows) (allowed-closed w.columns w.rows) placed)
-      (blocks-walled (marked w) marking-is-closed b m)
+      (marked-least w size (allowed w.columns w.rows) (allowed-closed w.columns w.rows) placed)
+      (blocks-walled (marked w) (marked-closed w size) b m)
 
 -- Of a map that refusals 1 to 5 let pass.
 module _ {columns rows : ℕ} {map : List ℕ} (a : Accepted columns rows map) where
@@ -107,7 +107,7 @@ module _ {columns rows : ℕ} {map : List ℕ} (a : Accepted columns rows map) w
   pub obstacles : ObstaclesOf (marked (mesh columns rows map))
   obstacles =
       let w = mesh columns rows map in
-      let closed = marking-is-closed w a.size in
+      let closed = marked-closed w a.size in
       record {
         walled = blocks-walled (marked w) closed;
         in-block = bad-in-block (marked w) closed;

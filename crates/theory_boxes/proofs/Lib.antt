@@ -6,6 +6,7 @@ pub mod Gathering
 pub mod Covering
 pub mod Faults
 pub mod Blocks
+pub mod Earlier
 pub mod Sorting
 pub mod Sorted
 pub mod Room

@@ -21,7 +21,8 @@ use Rattle.theory_boxes.proofs.Close.{far-told}
 use Rattle.theory_boxes.proofs.Orders.{reordered-mem}
 use Rattle.theory_boxes.proofs.Far.{Far}
 use Rattle.theory_boxes.proofs.Blocks.{all_lie, box-is-block, block-is-box}
-use Rattle.theory_boxes.proofs.Sorting.{Before, Differ, earlier-true, sorted-reordered, sorted-pairs, sorted-same}
+use Rattle.theory_boxes.proofs.Earlier.{Before, Differ, earlier-true}
+use Rattle.theory_boxes.proofs.Sorting.{sorted-reordered, sorted-pairs, sorted-same}
 
 -- places in the order of their indices
 row-order : (n i j : ℕ) → i ≤ j → i / n ≤ j / n

@@ -1,72 +1,16 @@
 -- Sorting by lowest row, then lowest column: the same boxes, each before the later ones; and no two such lists have the same boxes. Assumes nothing.
 use mathlib.Core.Path.{◌≡◌, refl, sym}
 use mathlib.Core.Logic.{◌⊎◌, inl, inr}
-use mathlib.Core.Bool.{Bool, true, false, ◌&&◌}
+use mathlib.Core.Bool.{true, false}
 use mathlib.Core.List.Memᴰ
 use mathlib.Core.List.Permᴰ
 use mathlib.Core.List.{List, [], ◌∷◌, Memᴰ}
-use Prim.Native.Nat.{◌≤◌, ◌<◌}
-use native.Mathlib.Omega.{arith}
-use borrow.Author.Tests.{ltb-true, ltb-false, lt-ltb, eqb-true, eq-eqb}
-use lib.Dec.{ltb, eqb}
-use Rattle.mesh.proofs.Bools.{value, and_both, and_right, or_cases, or-none}
+use Rattle.mesh.proofs.Bools.{value}
 use Rattle.theory_blocks.specs.Obstacles.{Pairs, none, more}
 use Rattle.theory_boxes.specs.Boxes.{Box, earlier, insert, sorted}
 use Rattle.theory_boxes.specs.Merging.{Reordered}
 use Rattle.theory_boxes.proofs.Orders.{reordered-mem}
-
-pub record Before (a b : Box) : Type 0 where
-  pub rows : a.low-row ≤ b.low-row
-  pub columns : a.low-row ≡ b.low-row → a.low_column < b.low_column
-
--- they do not begin at the same node
-pub record Differ (a b : Box) : Type 0 where
-  pub differ : a.low-row ≡ b.low-row → a.low_column ≡ b.low_column → ⊥
-
-module _ (a b : Box) where
-  -- the parts of the test
-  abbrev lower : Bool
-  lower = ltb a.low-row b.low-row
-
-  abbrev level : Bool
-  level = eqb a.low-row b.low-row
-
-  abbrev further-west : Bool
-  further-west = ltb a.low_column b.low_column
-
-  earlier-told : earlier a b ≡ true → Before a b
-  unfolding earlier
-  earlier-told e =
-      elim (or_cases lower (level && further-west) e) [
-        | inl h ↦ record { rows = omega (arith, ltb-true); columns = λ s. absurd (omega (arith, ltb-true)) }
-        | inr h ↦
-            let (p, q) = and_both {a = level} h in
-            record { rows = omega (arith, eqb-true); columns = λ s. omega (arith, ltb-true) }
-      ]
-
-  pub earlier-true : Before a b → earlier a b ≡ true
-  unfolding earlier
-  earlier-true p =
-      elim (value lower) [
-        | inl e ↦ rw e
-        | inr e ↦ let s : a.low-row ≡ b.low-row = omega (arith, ltb-false, p.rows) in rw (e, eq-eqb _ _ s, lt-ltb _ _ (p.columns s))
-      ]
-
-  -- if it is not the one it is the other
-  later-told : earlier a b ≡ false → Differ a b → Before b a
-  unfolding earlier
-  later-told e d =
-      let (p, q) = or-none lower (level && further-west) e in
-      record {
-        rows = omega (arith, ltb-false);
-        columns = λ s. let r = and_right level further-west (eq-eqb _ _ (sym s)) q in omega (arith, ltb-false, d.differ (sym s));
-      }
-
-before-trans : {a b c : Box} → Before a b → Before b c → Before a c
-before-trans p q = record { rows = omega arith; columns = λ s. omega (arith, p.columns (omega arith), q.columns (omega arith)) }
-
-not_itself : {a : Box} → Before a a → ⊥
-not_itself p = omega (arith, p.columns refl)
+use Rattle.theory_boxes.proofs.Earlier.{Before, Differ, earlier-told, later-told, before-trans, not_itself}
 
 -- Sorting keeps the boxes.
 insert-reordered : (a : Box) (l : List Box) → Reordered (a ∷ l) (insert a l)

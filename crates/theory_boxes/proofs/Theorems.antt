@@ -50,7 +50,7 @@ module _ (w : Mesh) (size : length w.map ≡ w.columns * w.rows) where
   -- the boxes are exactly the blocks of the marking, in the same order
   pub boxes-are-blocks : boxes w ≡ map box_of (blocks (marked w))
   unfolding boxes
-  boxes-are-blocks = sorted-blocks w size (merging-only (fault_boxes w)) (none-close _ (merging-ends (fault_boxes w)))
+  boxes-are-blocks = sorted-blocks w size (merging-only (fault_boxes w)) (none-close _ (all-far (length (fault_boxes w)) (fault_boxes w) (omega arith)))
 
   -- whichever two close boxes are replaced next, the same boxes are left
   pub any_order : {l : List Box} → Merges (fault_boxes w) l → some_close l ≡ false → sorted l ≡ boxes w

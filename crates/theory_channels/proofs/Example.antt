@@ -123,6 +123,7 @@ each-passed-on-one h (Memᴰ.head e) = rw e (First, EN-passed)
 each-passed-on-one h (Memᴰ.tail (Memᴰ.head e)) = rw e (Second, NW-passed)
 each-passed-on-one h (Memᴰ.tail (Memᴰ.tail (Memᴰ.head e))) = rw e (First, WS-passed)
 each-passed-on-one h (Memᴰ.tail (Memᴰ.tail (Memᴰ.tail (Memᴰ.head e)))) = rw e (First, SE-passed)
+each-passed-on-one h (Memᴰ.tail (Memᴰ.tail (Memᴰ.tail (Memᴰ.tail m)))) = elim m [ ]
 
 -- The three that the first network passes do wait, in a line: WS for SE, and SE for EN.
 pub passed-wait : Chain (WaitsFor (PassedOn First)) (waiting (PassedOn First) 2 7 W S WS-passed) (waiting (PassedOn First) 1 6 E N EN-passed)

@@ -10,5 +10,6 @@ pub mod Stages
 pub mod Longest
 pub mod Tour
 pub mod HandIns
+pub mod OnRoutes
 pub mod Theorems
 pub mod Example

@@ -25,14 +25,15 @@ use Rattle.theory_channels.specs.Waiting.{HandIn, Passed, channels, NextOnRoute,
 use Rattle.theory_channels.specs.Rank.{Later, rank, channel_rank}
 use Rattle.theory_channels.specs.Claims.{Neighbours, Link, Permitted, OnMesh, most_lawful, PassedWith}
 use Rattle.theory_channels.proofs.Chains.{chain-rises, rising-no-ring, no-ring-taken}
-use Rattle.theory_channels.proofs.Linked.{linked-step, linked-after, chain-to-next, linked-once}
+use Rattle.theory_channels.proofs.Linked.{linked-once}
 use Rattle.theory_channels.proofs.Highest.{highest-of}
 use Rattle.theory_channels.proofs.Turns.{permitted-told, permitted-true}
 use Rattle.theory_channels.proofs.Links.{channel-link, neighbours-link}
 use Rattle.theory_channels.proofs.Rank.{hop-later, later-rises}
 use Rattle.theory_channels.proofs.Channels.{permitted-follows, follower-permitted, follower-rises}
-use Rattle.theory_channels.proofs.Routes.{hops-linked, passed-linked}
+use Rattle.theory_channels.proofs.Routes.{hops-linked}
 use Rattle.theory_channels.proofs.Longest.{walk-short}
+use Rattle.theory_channels.proofs.OnRoutes.{next-follows, leads-on}
 use Rattle.theory_channels.proofs.HandIns.{passed-short, passed-few, longest}
 
 -- the hops that are permitted after the last one
@@ -71,29 +72,22 @@ module _ (network : Network) (columns rows : ℕ) (map : List ℕ) (Set : HandIn
     (all-passed : (h : HandIn) → Set h → Passed network columns rows map h) where
   -- on their routes each channel may follow the one before it
   pub next-may-follow : (a b : Channel) → NextOnRoute Set a b → MayFollow (turns_west network) (mesh columns rows map) a b
-  next-may-follow a b n =
-      let linked = passed-linked network columns rows map n.hand_in (all-passed n.hand_in n.member).1 in
-      linked-step (linked-after n.before (a ∷ b ∷ n.after) (rw n.in_order at linked))
+  next-may-follow = next-follows network columns rows map Set all-passed
 
   -- so no channels, each right after the one before it on some route, form a ring
   pub routes-form-no-ring : NoRing (NextOnRoute Set)
   routes-form-no-ring =
-      no-ring-taken (λ a. a) (λ a b n. one (next-may-follow a b n)) (networks-form-no-ring (mesh columns rows map) network)
+      no-ring-taken (λ a. a) (λ a b n. one (next-follows network columns rows map Set all-passed a b n)) (networks-form-no-ring (mesh columns rows map) network)
 
   -- where p waits for q, a chain of steps leads along q's route, from the channel that p waits for to the one that q waits for
   pub waiting-leads-on : (p q : Waiting Set) → WaitsFor Set p q → Chain (MayFollow (turns_west network) (mesh columns rows map)) p.wanted q.wanted
-  waiting-leads-on p q s =
-      let linked = passed-linked network columns rows map q.hand_in (all-passed q.hand_in q.member).1 in
-      chain-to-next q.held q.wanted q.ahead
-      (linked-after q.left (q.held ++ (q.wanted ∷ q.ahead)) (rw q.in_order at linked))
-      p.wanted
-      s.holds
+  waiting-leads-on = leads-on network columns rows map Set all-passed
 
   -- They can't wait in a ring: take packets, each of which holds channels in a row of its route and waits for the next channel, which the
   -- next packet holds; they never lead back to the first.
   pub passed-wait-in-no-ring : NoRing (WaitsFor Set)
   passed-wait-in-no-ring =
-      no-ring-taken (λ p. p.wanted) waiting-leads-on (networks-form-no-ring (mesh columns rows map) network)
+      no-ring-taken (λ p. p.wanted) (leads-on network columns rows map Set all-passed) (networks-form-no-ring (mesh columns rows map) network)
 
   -- and of waiting packets, however many, one can always go on
   pub some-can-go-on : (p : Waiting Set) (others : List (Waiting Set)) → CanGoOn Set (p ∷ others)
@@ -105,7 +99,7 @@ module _ (network : Network) (columns rows : ℕ) (map : List ℕ) (Set : HandIn
         listed = h.member;
         free =
             λ q m s.
-            let i = chain-rises (channel_rank (turns_west network) w) (rank_rises w (turns_west network)) (waiting-leads-on h.top q s) in
+            let i = chain-rises (channel_rank (turns_west network) w) (rank_rises w (turns_west network)) (leads-on network columns rows map Set all-passed h.top q s) in
             absurd (omega (arith, h.highest q m));
       }
 

@@ -43,7 +43,7 @@ module _ (columns rows : ℕ) where
   place-count = numbering.place-count columns rows
 
   pub place-of-number : (k : ℕ) → k < place_count columns rows → place_numbered columns rows k ≡ place (k / (columns - 4) + 1) (k % (columns - 4) + 2)
-  place-of-number k h = numbering.place-of-number columns rows k (rw place-count at h)
+  place-of-number k h = numbering.place-of-number columns rows k (rw (numbering.place-count columns rows) at h)
 
   -- where there is none
   pub no_place : place_count columns rows ≡ 0 ↔ (columns < 5) ⊎ (rows < 3)

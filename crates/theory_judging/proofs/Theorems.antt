@@ -114,7 +114,9 @@ module _ (network : Network) (columns rows : ℕ) (map : List ℕ) (s d : Place)
     pub judgement-of-route : (hs : List Heading) → lawful_route (trip_to network columns rows map d) (fresh s) hs ≡ true →
         judgement network columns rows map s d (letters hs) ≡ passed (length hs)
     judgement-of-route hs e =
-        clear-judged network columns rows map s d (letters hs) clear ∙ route-is-passed (trip_to network columns rows map d) (fresh s) hs e
+        let t = trip_to network columns rows map d in
+        let own : judge t (fresh s) 0 (letters hs) ≡ passed (length hs) = route-passed t (fresh s) 0 hs e ∙ rw zero-add in
+        clear-judged network columns rows map s d (letters hs) clear ∙ own
 
   -- A hand-in fails with 14 at index j exactly if no refusal applies, the letters before j are lawful, and letter j makes an EN or NW turn where
   -- that is forbidden, without leaving the mesh (which is told first, by 12);

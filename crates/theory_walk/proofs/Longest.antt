@@ -6,7 +6,7 @@ use native.Mathlib.Omega.{arith}
 use Rattle.mesh.specs.Blocks.{Block}
 use Rattle.mesh.specs.Rules.{Trip}
 use Rattle.mesh.specs.Walk.{distance, bound}
-use Rattle.theory_blocks.proofs.Area.{detours-bounded}
+use Rattle.theory_blocks.proofs.Detours.{detours-bounded}
 use Rattle.theory_walk.specs.Course.{Course, FreePlace}
 use Rattle.theory_walk.specs.Claims.{most_hops}
 

@@ -76,8 +76,8 @@ module _ {t : Trip} {bs : List Block} (course : Course t bs) where
       x ≡ near t W b + 1 → not_own t W c ≡ 1 →
       Fails t (state r c (made N))
   unfolding row_after
-  north-fails zero q o e to f a = north-by q o (omega arith) to f a (λ h. absurd (omega arith))
-  north-fails (suc m) q o e to f a = north-by q o (omega arith) to f a (λ h. north-fails m q (off-out q o h) (omega arith) to f a)
+  north-fails {b = b} {k = k} {r = r} {c = c} {x = x} zero q o e to f a = north-by q o (omega arith) to f a (λ h. absurd (omega arith))
+  north-fails {b = b} {k = k} {r = r} {c = c} {x = x} (suc m) q o e to f a = north-by q o (omega arith) to f a (λ h. north-fails {b = b} {k = suc k} {r = r + 1} {c = c} {x = x} m q (off-out q o h) (omega arith) to f a)
 
   -- rule 2 sends it north
   row-fails : {r c : ℕ} → t.bad r c ≡ false → t.west c ≡ false → blocked t W 1 r c ≡ true → r ≡ t.R → t.C < c → Fails t (fresh (place r c))

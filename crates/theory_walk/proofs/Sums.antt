@@ -21,6 +21,7 @@ sum-le f g h (b ∷ bs) = let i = sum-le f g h bs in let j = h b in omega arith
 pub sum_less : (f g : Block → ℕ) (k : ℕ) → ((b : Block) → f b ≤ g b) → (a : Block) → f a + k ≤ g a → (bs : List Block) → Listed a bs →
     sum f bs + k ≤ sum g bs
 unfolding sum
+sum_less f g k h a d [] x' = elim x' [ ]
 sum_less f g k h a d (b ∷ bs) (Memᴰ.head e) = let i = sum-le f g h bs in let j : f b + k ≤ g b = rw e at d in omega arith
 sum_less f g k h a d (b ∷ bs) (Memᴰ.tail m) = let i = sum_less f g k h a d bs m in let j = h b in omega arith
 

@@ -16,7 +16,6 @@ use Rattle.mesh.specs.declared.Network.TheVariants.{First, Second}
 use Rattle.mesh.specs.declared.Place.{Place}
 use Rattle.mesh.specs.Mesh.{Mesh, mesh, place}
 use Rattle.mesh.specs.Parity.{turns_west}
-use Rattle.mesh.specs.Nodes.{bad}
 use Rattle.mesh.specs.Rounds.{marked}
 use Rattle.mesh.specs.Blocks.{Block, blocks}
 use Rattle.mesh.specs.Rules.{Trip, blocked, trip_on}

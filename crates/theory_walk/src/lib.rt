@@ -1,1 +1,2 @@
 // The walk theorem: theorems about the hop rules of `mesh` round the blocks of `theory_blocks`, and no code.
+#![tactic(auto)]

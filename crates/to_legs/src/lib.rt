@@ -1,4 +1,6 @@
 // Letters to legs (document 02, E3): all letters are looked through and their legs measured; once nothing is refused the file is written.
+#![tactic(auto)]
+
 ghost use Rattle.std.specs.Prelude.{◌≡◌, false, ◌||◌, ◌≤◌, ◌<◌, ◌+◌, ◌-◌, ◌*◌, length};
 ghost use Rattle.mesh.specs.Headings.{named};
 ghost use Rattle.buffers.specs.Over.{over};
@@ -66,7 +68,7 @@ fn leg_size(length: usize) -> usize
 }
 
 // The legs of letters: whether one is over 16,384, how many there are and how many bytes they have.
-#[derive(Drop)]
+#[derive(Clone, Copy)]
 pub struct Measured {
     pub long: bool,
     pub legs: usize,

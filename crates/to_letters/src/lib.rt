@@ -1,4 +1,6 @@
 // Legs to letters (document 02, E3): the file is read through and its letters counted; once nothing is refused they are written.
+#![tactic(auto)]
+
 ghost use Rattle.std.specs.Prelude.{◌≡◌, ◌≤◌, ◌+◌, ◌/◌, ◌%◌, length, replicate};
 ghost use Rattle.mesh.specs.Headings.{letter, direction};
 ghost use Rattle.buffers.specs.Over.{over, Puts};
@@ -11,7 +13,7 @@ use headings::{direction, letter};
 use theory_legs::{Converted, LegRefusal};
 
 // Legs of a file: their number of letters, and the index after them; or why they are refused.
-#[derive(Drop)]
+#[derive(Clone, Copy)]
 pub enum Span {
     Letters(usize, usize),
     Refused(LegRefusal),
@@ -46,7 +48,7 @@ fn count_legs(file: &[u8], first: usize, legs: u32) -> Span
 }
 
 // A file: its number of legs, the index of the first and the number of their letters; or why it is refused.
-#[derive(Drop)]
+#[derive(Clone, Copy)]
 pub enum Counted {
     Legs(u32, usize, usize),
     Refused(LegRefusal),

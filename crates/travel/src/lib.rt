@@ -1,4 +1,6 @@
 // Legs: the hops that straight travel repeats, found by a look along the row or the column.
+#![tactic(auto)]
+
 ghost use Rattle.std.specs.Prelude.{◌≡◌, true, false, ◌≤◌};
 ghost use Rattle.mesh.specs.declared.Network.{Network};
 ghost use Rattle.mesh.specs.Mesh.{mesh};
@@ -13,7 +15,7 @@ use mesh::{Heading, Network, Packet};
 use rules::{again, is_in_row, is_nearing, is_stopped_by_second, side, toward};
 
 // So many hops that way.
-#[derive(Drop)]
+#[derive(Clone, Copy)]
 pub struct Leg {
     pub heading: Heading,
     pub hops: u32,

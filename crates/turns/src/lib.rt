@@ -1,4 +1,6 @@
 // The turn test.
+#![tactic(auto)]
+
 ghost use Rattle.std.specs.Prelude.{◌≡◌, ◌<◌};
 ghost use Rattle.mesh.specs.Parity.{turns_west};
 ghost use Rattle.mesh.specs.Turns.{turn_breaks, hop_breaks, reverses, turns_back};

@@ -1,4 +1,6 @@
 // The walk by the hop rules. It is followed in two modes that hand over to each other: straight travel, and travel round a block.
+#![tactic(auto)]
+
 ghost use Rattle.std.specs.Prelude.{◌≡◌, false, leb, length, replicate};
 ghost use Rattle.mesh.specs.Mesh.{mesh};
 ghost use Rattle.mesh.specs.Headings.{letter};

@@ -1,0 +1,4 @@
+use Rattle.groups.proofs.+read_groups.Given as goal
+
+abbrev pub decreases-read_groups : goal.decreases-read_groups
+decreases-read_groups l = l.k
