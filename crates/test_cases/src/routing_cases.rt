@@ -2,6 +2,7 @@
 use mesh::Network;
 use numbers::{place_of, routed_code};
 use routing::route;
+use std::io;
 use test_prints::{faults, node, print, print_answer, print_number, print_request};
 
 fn send(network: Network, p: u32, q: u32, source: u32, destination: u32, out: &mut [u8]) -> u32 {
@@ -10,96 +11,113 @@ fn send(network: Network, p: u32, q: u32, source: u32, destination: u32, out: &m
 }
 
 // A request on a map with these faults.
-fn try_on(network: Network, what: &[u8], p: u32, q: u32, source: u32, destination: u32) {
+fn try_on(
+    rt: &impl Print,
+    network: Network,
+    what: &[u8],
+    p: u32,
+    q: u32,
+    source: u32,
+    destination: u32,
+) -> io::Result<()> {
     let mut out = [b'.'; 20];
     let answer = send(network, p, q, source, destination, &mut out);
-    print_request(what, p, q, source, destination);
-    print_answer(answer);
-    print(b" ");
-    print(&out);
-    print(b"\n");
+    print_request(rt, what, p, q, source, destination)?;
+    print_answer(rt, answer)?;
+    print(rt, b" ")?;
+    print(rt, &out)?;
+    print(rt, b"\n")
 }
 
-fn try_route(p: u32, q: u32, source: u32, destination: u32) {
-    try_on(Network::First, b"route round", p, q, source, destination);
-}
-
-fn try_second(p: u32, q: u32, source: u32, destination: u32) {
+fn try_route(rt: &impl Print, p: u32, q: u32, source: u32, destination: u32) -> io::Result<()> {
     try_on(
+        rt,
+        Network::First,
+        b"route round",
+        p,
+        q,
+        source,
+        destination,
+    )
+}
+
+fn try_second(rt: &impl Print, p: u32, q: u32, source: u32, destination: u32) -> io::Result<()> {
+    try_on(
+        rt,
         Network::Second,
         b"second network, route round",
         p,
         q,
         source,
         destination,
-    );
+    )
 }
 
 // On one column of eight rows, on the second network.
-fn try_column(row: u32, to_row: u32) {
+fn try_column(rt: &impl Print, row: u32, to_row: u32) -> io::Result<()> {
     let map = [0u8; 8];
     let mut out = [b'.'; 8];
     let s = place_of(row, 0);
     let d = place_of(to_row, 0);
     let answer = routed_code(route(Network::Second, 1, 8, &map, s, d, &mut out));
-    print(b"second network, one column, from row ");
-    print_number(row as u64);
-    print(b" to row ");
-    print_number(to_row as u64);
-    print_answer(answer);
-    print(b" ");
-    print(&out);
-    print(b"\n");
+    print(rt, b"second network, one column, from row ")?;
+    print_number(rt, row as u64)?;
+    print(rt, b" to row ")?;
+    print_number(rt, to_row as u64)?;
+    print_answer(rt, answer)?;
+    print(rt, b" ")?;
+    print(rt, &out)?;
+    print(rt, b"\n")
 }
 
 // Round one block: its rows and the rows next to it.
-fn try_near() {
-    try_route(34, 45, 15, 54);
-    try_route(34, 45, 49, 54);
-    try_route(34, 45, 64, 25);
-    try_route(34, 45, 15, 41);
-    try_route(34, 45, 15, 32);
-    try_route(34, 45, 15, 33);
-    try_route(34, 45, 15, 46);
-    try_route(34, 45, 15, 47);
-    try_route(34, 45, 15, 48);
-    try_route(43, 43, 41, 42);
+fn try_near(rt: &impl Print) -> io::Result<()> {
+    try_route(rt, 34, 45, 15, 54)?;
+    try_route(rt, 34, 45, 49, 54)?;
+    try_route(rt, 34, 45, 64, 25)?;
+    try_route(rt, 34, 45, 15, 41)?;
+    try_route(rt, 34, 45, 15, 32)?;
+    try_route(rt, 34, 45, 15, 33)?;
+    try_route(rt, 34, 45, 15, 46)?;
+    try_route(rt, 34, 45, 15, 47)?;
+    try_route(rt, 34, 45, 15, 48)?;
+    try_route(rt, 43, 43, 41, 42)
 }
 
-pub fn try_routes() {
-    try_route(34, 45, 15, 65);
-    try_route(34, 45, 14, 39);
-    try_route(34, 45, 30, 39);
-    try_route(34, 45, 49, 40);
-    try_route(33, 36, 30, 39);
-    try_route(44, 44, 45, 65);
-    try_route(44, 44, 45, 40);
-    try_route(44, 44, 45, 49);
-    try_route(44, 44, 0, 46);
-    try_route(44, 44, 49, 46);
-    try_route(44, 44, 49, 47);
-    try_route(44, 44, 47, 47);
-    try_route(44, 44, 0, 0);
-    try_near();
+pub fn try_routes(rt: &impl Print) -> io::Result<()> {
+    try_route(rt, 34, 45, 15, 65)?;
+    try_route(rt, 34, 45, 14, 39)?;
+    try_route(rt, 34, 45, 30, 39)?;
+    try_route(rt, 34, 45, 49, 40)?;
+    try_route(rt, 33, 36, 30, 39)?;
+    try_route(rt, 44, 44, 45, 65)?;
+    try_route(rt, 44, 44, 45, 40)?;
+    try_route(rt, 44, 44, 45, 49)?;
+    try_route(rt, 44, 44, 0, 46)?;
+    try_route(rt, 44, 44, 49, 46)?;
+    try_route(rt, 44, 44, 49, 47)?;
+    try_route(rt, 44, 44, 47, 47)?;
+    try_route(rt, 44, 44, 0, 0)?;
+    try_near(rt)
 }
 
 // The second network: some of the same requests; sources that are shut in on one network and served on the other; sources in column 0.
-pub fn try_second_network() {
-    try_second(34, 45, 15, 65);
-    try_second(34, 45, 14, 39);
-    try_second(34, 45, 30, 39);
-    try_second(34, 45, 49, 40);
-    try_second(33, 36, 30, 39);
-    try_second(44, 44, 45, 65);
-    try_second(43, 43, 44, 64);
-    try_route(43, 43, 44, 64);
-    try_second(43, 43, 44, 40);
-    try_second(43, 43, 44, 49);
-    try_second(34, 45, 30, 49);
-    try_second(44, 44, 40, 49);
-    try_second(44, 44, 40, 40);
-    try_column(3, 3);
-    try_column(3, 4);
-    try_column(3, 0);
-    try_column(0, 7);
+pub fn try_second_network(rt: &impl Print) -> io::Result<()> {
+    try_second(rt, 34, 45, 15, 65)?;
+    try_second(rt, 34, 45, 14, 39)?;
+    try_second(rt, 34, 45, 30, 39)?;
+    try_second(rt, 34, 45, 49, 40)?;
+    try_second(rt, 33, 36, 30, 39)?;
+    try_second(rt, 44, 44, 45, 65)?;
+    try_second(rt, 43, 43, 44, 64)?;
+    try_route(rt, 43, 43, 44, 64)?;
+    try_second(rt, 43, 43, 44, 40)?;
+    try_second(rt, 43, 43, 44, 49)?;
+    try_second(rt, 34, 45, 30, 49)?;
+    try_second(rt, 44, 44, 40, 49)?;
+    try_second(rt, 44, 44, 40, 40)?;
+    try_column(rt, 3, 3)?;
+    try_column(rt, 3, 4)?;
+    try_column(rt, 3, 0)?;
+    try_column(rt, 0, 7)
 }

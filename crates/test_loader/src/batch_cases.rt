@@ -2,98 +2,113 @@
 use batch::route_batch;
 use mesh::Network;
 use numbers::refusal_number;
+use std::io;
 use test_prints::{faults, print, print_answer, print_number};
 use theory_batch::Batched;
 
-fn print_batched(answer: Batched) {
+fn print_batched(rt: &impl Print, answer: Batched) -> io::Result<()> {
     match answer {
-        Batched::Letters(n) => print_number(n as u64),
+        Batched::Letters(n) => print_number(rt, n as u64),
         Batched::Refused(why) => {
-            print(b"no ");
-            print_number(refusal_number(why) as u64)
+            print(rt, b"no ")?;
+            print_number(rt, refusal_number(why) as u64)
         }
-        Batched::NotSends => print(b"no 18"),
+        Batched::NotSends => print(rt, b"no 18"),
     }
 }
 
-fn print_entries(answers: &[u32]) {
+fn print_entries(rt: &impl Print, answers: &[u32]) -> io::Result<()> {
     let n = answers.len();
     let mut i = 0;
     while i < n {
-        print_answer(answers[i]);
+        print_answer(rt, answers[i])?;
         i += 1;
     }
+    Ok(())
 }
 
 // On a map with this fault and (4,5).
-fn try_sends(network: Network, p: u32, sends: &[u32], answers: &mut [u32], out: &mut [u8]) {
+fn try_sends(
+    rt: &impl Print,
+    network: Network,
+    p: u32,
+    sends: &[u32],
+    answers: &mut [u32],
+    out: &mut [u8],
+) -> io::Result<()> {
     let map = faults(p, 45);
     let answer = route_batch(network, 10, 8, &map, sends, answers, out);
-    print(b"table of sends: ");
-    print_batched(answer);
-    print_entries(answers);
-    print(b" ");
-    print(out);
-    print(b"\n");
+    print(rt, b"table of sends: ")?;
+    print_batched(rt, answer)?;
+    print_entries(rt, answers)?;
+    print(rt, b" ")?;
+    print(rt, out)?;
+    print(rt, b"\n")
 }
 
 // Sends of 11 hops, of 13, to a block's side, of 2.
-fn try_table(network: Network, p: u32, answers: &mut [u32], out: &mut [u8]) {
+fn try_table(
+    rt: &impl Print,
+    network: Network,
+    p: u32,
+    answers: &mut [u32],
+    out: &mut [u8],
+) -> io::Result<()> {
     let sends = [1u32, 5, 6, 5, 3, 0, 3, 9, 1, 1, 4, 6, 1, 1, 1, 3];
-    try_sends(network, p, &sends, answers, out);
+    try_sends(rt, network, p, &sends, answers, out)
 }
 
 // To the row above a block, to its west and east sides, to the row below it.
-fn try_near() {
+fn try_near(rt: &impl Print) -> io::Result<()> {
     let mut answers = [0u32; 4];
     let mut out = [b'.'; 30];
     let sends = [1u32, 5, 5, 4, 1, 5, 3, 3, 1, 5, 4, 7, 6, 4, 2, 5];
-    try_sends(Network::First, 34, &sends, &mut answers, &mut out);
+    try_sends(rt, Network::First, 34, &sends, &mut answers, &mut out)
 }
 
-fn try_30(p: u32) {
+fn try_30(rt: &impl Print, p: u32) -> io::Result<()> {
     let mut answers = [0u32; 5];
     let mut out = [b'.'; 30];
-    try_table(Network::First, p, &mut answers, &mut out);
+    try_table(rt, Network::First, p, &mut answers, &mut out)
 }
 
 // The second has no room, and the last has.
-fn try_23() {
+fn try_23(rt: &impl Print) -> io::Result<()> {
     let mut answers = [0u32; 5];
     let mut out = [b'.'; 23];
-    try_table(Network::First, 34, &mut answers, &mut out);
+    try_table(rt, Network::First, 34, &mut answers, &mut out)
 }
 
 // Nor has the last.
-fn try_12() {
+fn try_12(rt: &impl Print) -> io::Result<()> {
     let mut answers = [0u32; 4];
     let mut out = [b'.'; 12];
-    try_table(Network::First, 34, &mut answers, &mut out);
+    try_table(rt, Network::First, 34, &mut answers, &mut out)
 }
 
 // The same on the second network, with room for the first two.
-fn try_second() {
+fn try_second(rt: &impl Print) -> io::Result<()> {
     let mut answers = [0u32; 4];
     let mut out = [b'.'; 22];
-    print(b"second network, ");
-    try_table(Network::Second, 34, &mut answers, &mut out);
+    print(rt, b"second network, ")?;
+    try_table(rt, Network::Second, 34, &mut answers, &mut out)
 }
 
 // Too few entries.
-fn try_short(p: u32) {
+fn try_short(rt: &impl Print, p: u32) -> io::Result<()> {
     let mut answers = [0u32; 3];
     let mut out = [b'.'; 30];
-    try_table(Network::First, p, &mut answers, &mut out);
+    try_table(rt, Network::First, p, &mut answers, &mut out)
 }
 
 // With room for all and less; too few entries; and these with a fault where none is allowed; near a block; on the second network.
-pub fn try_tables() {
-    try_30(34);
-    try_23();
-    try_12();
-    try_short(34);
-    try_30(4);
-    try_short(4);
-    try_near();
-    try_second();
+pub fn try_tables(rt: &impl Print) -> io::Result<()> {
+    try_30(rt, 34)?;
+    try_23(rt)?;
+    try_12(rt)?;
+    try_short(rt, 34)?;
+    try_30(rt, 4)?;
+    try_short(rt, 4)?;
+    try_near(rt)?;
+    try_second(rt)
 }

@@ -4,7 +4,7 @@ use test_router::answers::Size;
 use test_router::trips::Trip;
 
 // A mesh in which one of so many stretches of nodes is faulty: stretches of this length in columns, and again in rows.
-#[derive(Drop)]
+#[derive(Clone, Copy)]
 pub struct Shape {
     pub size: Size,
     pub stretch: u8,

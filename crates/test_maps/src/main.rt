@@ -1,5 +1,7 @@
 // Random maps, requests and hand-ins on either network: marking, routing and judging set against the test router. Prints how many of what was
 // tried came out as it should.
+#![tactic(auto)]
+
 mod draws;
 mod hand_ins;
 mod handed;
@@ -7,7 +9,7 @@ mod tallies;
 mod trials;
 
 use draws::Shape;
-use libc::STDOUT_FILENO;
+use std::io;
 use std::num::wrapping_add_u64;
 use tallies::print;
 use test_router::answers::Size;
@@ -32,30 +34,45 @@ fn try_all(tallies: &mut [u64; 128]) {
 }
 
 // Of each number from `first` to before `end`: what it is a number of, and the thing so much above it.
-fn print_each(what: &[u8], tallies: &[u64; 128], network: u8, first: u64, end: u64, more: u64) {
+fn print_each(
+    rt: &impl Print,
+    what: &[u8],
+    tallies: &[u64; 128],
+    network: u8,
+    first: u64,
+    end: u64,
+    more: u64,
+) -> io::Result<()> {
     let mut k = first;
     while k < end {
-        io::write_all(STDOUT_FILENO, what);
-        io::print_decimal(STDOUT_FILENO, k);
-        print(b" ", tallies, network, wrapping_add_u64(k, more) as usize);
+        rt.write_all(what)?;
+        rt.print(k)?;
+        print(
+            rt,
+            b" ",
+            tallies,
+            network,
+            wrapping_add_u64(k, more) as usize,
+        )?;
         k += 1;
     }
+    Ok(())
 }
 
-fn print_network(tallies: &[u64; 128], network: u8) {
-    print(b"served ", tallies, network, 0);
-    print_each(b"refusal ", tallies, network, 6, 11, 0);
-    print(b"routes within the bound ", tallies, network, 12);
-    print(b"hand-ins passed ", tallies, network, 14);
-    print_each(b"hand-ins failed with ", tallies, network, 11, 18, 14);
+fn print_network(rt: &impl Print, tallies: &[u64; 128], network: u8) -> io::Result<()> {
+    print(rt, b"served ", tallies, network, 0)?;
+    print_each(rt, b"refusal ", tallies, network, 6, 11, 0)?;
+    print(rt, b"routes within the bound ", tallies, network, 12)?;
+    print(rt, b"hand-ins passed ", tallies, network, 14)?;
+    print_each(rt, b"hand-ins failed with ", tallies, network, 11, 18, 14)
 }
 
-fn main() {
+fn main(rt: HostRuntime) -> io::Result<()> {
     let mut tallies = [0u64; 128];
     try_all(&mut tallies);
-    print(b"maps marked, rounds counted ", &tallies, 1, 11);
-    io::write_all(STDOUT_FILENO, b"first network\n");
-    print_network(&tallies, 1);
-    io::write_all(STDOUT_FILENO, b"second network\n");
-    print_network(&tallies, 2);
+    print(&rt, b"maps marked, rounds counted ", &tallies, 1, 11)?;
+    println!(rt; "first network")?;
+    print_network(&rt, &tallies, 1)?;
+    println!(rt; "second network")?;
+    print_network(&rt, &tallies, 2)
 }

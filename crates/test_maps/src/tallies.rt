@@ -1,7 +1,7 @@
 // What was tried and what held: for thing k, below 32, on network 1 or 2 the numbers at i and 64 + i, where i is k, or 32 + k on network 1.
 ghost use Rattle.std.specs.Prelude.{◌<◌};
 
-use libc::STDOUT_FILENO;
+use std::io;
 use std::num::wrapping_add_u64;
 
 fn place(network: u8, k: usize) -> usize
@@ -18,11 +18,14 @@ pub fn count(tallies: &mut [u64; 128], network: u8, k: usize, held: bool) {
 }
 
 // Prints what thing k is, how often it held and how often it was tried.
-pub fn print(what: &[u8], tallies: &[u64; 128], network: u8, k: usize) {
+pub fn print(
+    rt: &impl Print,
+    what: &[u8],
+    tallies: &[u64; 128],
+    network: u8,
+    k: usize,
+) -> io::Result<()> {
     let i = place(network, k);
-    io::write_all(STDOUT_FILENO, what);
-    io::print_decimal(STDOUT_FILENO, tallies[64 + i]);
-    io::write_all(STDOUT_FILENO, b" of ");
-    io::print_decimal(STDOUT_FILENO, tallies[i]);
-    io::write_all(STDOUT_FILENO, b"\n");
+    rt.write_all(what)?;
+    println!(rt; "{} of {}", tallies[64 + i], tallies[i])
 }

@@ -1,7 +1,9 @@
 // Maps with one fault or two, and the printing of requests, answers and bytes.
-use libc::STDOUT_FILENO;
+#![tactic(auto)]
+
 use mesh::Place;
 use numbers::place_of;
+use std::io;
 
 pub fn node(p: u32) -> Place {
     place_of(p / 10, p % 10)
@@ -15,65 +17,73 @@ pub fn faults(p: u32, q: u32) -> [u8; 80] {
     map
 }
 
-pub fn print(text: &[u8]) {
-    io::write_all(STDOUT_FILENO, text);
+pub fn print(rt: &impl Print, text: &[u8]) -> io::Result<()> {
+    rt.write_all(text)
 }
 
-pub fn print_number(n: u64) {
-    io::print_decimal(STDOUT_FILENO, n);
+pub fn print_number(rt: &impl Print, n: u64) -> io::Result<()> {
+    rt.print(n)
 }
 
-pub fn print_place(row: u32, column: u32) {
-    print(b" (");
-    print_number(row as u64);
-    print(b",");
-    print_number(column as u64);
-    print(b")");
+pub fn print_place(rt: &impl Print, row: u32, column: u32) -> io::Result<()> {
+    print(rt, b" (")?;
+    print_number(rt, row as u64)?;
+    print(rt, b",")?;
+    print_number(rt, column as u64)?;
+    print(rt, b")")
 }
 
-fn print_node(p: u32) {
-    print_place(p / 10, p % 10);
+fn print_node(rt: &impl Print, p: u32) -> io::Result<()> {
+    print_place(rt, p / 10, p % 10)
 }
 
-pub fn print_faults(p: u32, q: u32) {
-    print_node(p);
+pub fn print_faults(rt: &impl Print, p: u32, q: u32) -> io::Result<()> {
+    print_node(rt, p)?;
     if p != q {
-        print_node(q);
+        print_node(rt, q)?;
     }
+    Ok(())
 }
 
 // What is asked, on a map with these faults.
-pub fn print_request(what: &[u8], p: u32, q: u32, source: u32, destination: u32) {
-    print(what);
-    print_faults(p, q);
-    print(b", from");
-    print_node(source);
-    print(b" to");
-    print_node(destination);
+pub fn print_request(
+    rt: &impl Print,
+    what: &[u8],
+    p: u32,
+    q: u32,
+    source: u32,
+    destination: u32,
+) -> io::Result<()> {
+    print(rt, what)?;
+    print_faults(rt, p, q)?;
+    print(rt, b", from")?;
+    print_node(rt, source)?;
+    print(rt, b" to")?;
+    print_node(rt, destination)
 }
 
 // A number, or 65,536 and a refusal.
-pub fn print_answer(code: u32) {
+pub fn print_answer(rt: &impl Print, code: u32) -> io::Result<()> {
     if code < 65536 {
-        print(b": ");
-        print_number(code as u64);
-        return;
+        print(rt, b": ")?;
+        return print_number(rt, code as u64);
     }
-    print(b": no ");
-    print_number((code - 65536) as u64);
+    print(rt, b": no ")?;
+    print_number(rt, (code - 65536) as u64)
 }
 
-fn print_byte(byte: u8) {
-    print(b" ");
-    print_number(byte as u64)
+fn print_byte(rt: &impl Print, byte: u8) -> io::Result<()> {
+    print(rt, b" ")?;
+    print_number(rt, byte as u64)
 }
 
 // Bytes as numbers.
-pub fn print_bytes(bytes: &[u8]) {
+pub fn print_bytes(rt: &impl Print, bytes: &[u8]) -> io::Result<()> {
     let n = bytes.len();
     let mut i = 0;
     while i < n {
-        print_byte(bytes[i]);
+        print_byte(rt, bytes[i])?;
         i += 1;
     }
+    Ok(())
 }

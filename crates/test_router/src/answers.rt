@@ -3,7 +3,7 @@ use crate::areas::{Area, area_at, is_within};
 use crate::trips::{Trip, after, is_forbidden, is_shut, next_hop};
 use std::num::wrapping_add_u32;
 
-#[derive(Drop)]
+#[derive(Clone, Copy)]
 pub struct Size {
     pub columns: u8,
     pub rows: u8,

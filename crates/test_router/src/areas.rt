@@ -2,7 +2,7 @@
 use std::num::wrapping_add_usize;
 
 // A box by its lowest row, lowest column, highest row and highest column.
-#[derive(Drop)]
+#[derive(Clone, Copy)]
 pub struct Area {
     pub south: u8,
     pub west: u8,

@@ -3,7 +3,7 @@ use crate::areas::is_within;
 use std::num::{wrapping_add_u8, wrapping_sub_u8};
 
 // Where a packet is and where it goes, on network 1 or 2.
-#[derive(Drop)]
+#[derive(Clone, Copy)]
 pub struct Trip {
     pub network: u8,
     pub row: u8,

@@ -3,7 +3,7 @@ use crate::answers::{Size, is_off, is_over};
 use crate::trips::{Trip, after, broken_rule, is_reversal, is_shut};
 
 // 0 passed, or the number of what is wrong; the length, or the index of the wrong letter.
-#[derive(Drop)]
+#[derive(Clone, Copy)]
 pub struct Verdict {
     pub number: u32,
     pub index: usize,
