@@ -1,1 +1,2 @@
 pub mod Using
+pub mod Written

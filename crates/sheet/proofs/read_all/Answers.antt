@@ -1,0 +1,26 @@
+-- The bytes that came so far were fed from the start, and each read that goes on leaves fewer to take. Assumes nothing.
+use Rattle.sheet.proofs.Going.{going-first, reads-stop, answers-stop, going_on, going_less}
+use Rattle.sheet.proofs.read_all.Goals as goal
+
+pub loop-read-init : goal.loop-read-init
+loop-read-init g c = let (size, _) = c.requires in going-first c.begin-r.ensures size
+
+pub returns-then-not-reads_on-clause-reads : goal.returns-then-not-reads_on-clause-reads
+returns-then-not-reads_on-clause-reads g c =
+    let read = c.read_some-read.ensures in
+    reads-stop c.loop-read.invariant read.reads c.reads_on.ensures c.if-not-reads_on.true
+
+pub returns-then-not-reads_on-clause-answers : goal.returns-then-not-reads_on-clause-answers
+returns-then-not-reads_on-clause-answers g c =
+    let read = c.read_some-read.ensures in
+    answers-stop c.loop-read.invariant read.reads read.takes read.writes c.reads_on.ensures c.if-not-reads_on.true c.loop-read.auto.chunk
+
+pub loop-read-smaller : goal.loop-read-smaller
+loop-read-smaller g c =
+    let read = c.read_some-read.ensures in
+    going_less c.loop-read.invariant read.reads read.takes read.writes c.reads_on.ensures c.if-not-reads_on.false
+
+pub loop-read-preserved : goal.loop-read-preserved
+loop-read-preserved g c =
+    let read = c.read_some-read.ensures in
+    going_on c.loop-read.invariant read.reads read.takes read.writes c.reads_on.ensures c.if-not-reads_on.false
