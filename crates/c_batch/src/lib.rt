@@ -1,4 +1,6 @@
 // "A whole table of sends" for programs in C and Rust (c/pinduguil.h).
+#![tactic(auto)]
+
 ghost use Rattle.std.specs.Prelude.{◌≡◌};
 ghost use Rattle.mesh.specs.Numbers.{answer_refusal};
 ghost use Rattle.theory_batch.specs.Batch.{batched_answer};
@@ -32,8 +34,7 @@ fn put_letters(answer: Batched, letters: &mut [u64])
     }
 }
 
-#[unsafe(no_mangle)]
-pub extern "C" fn pinduguil_route_batch(
+pub fn pinduguil_route_batch(
     network: u32,
     columns: u32,
     rows: u32,

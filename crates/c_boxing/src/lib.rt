@@ -1,4 +1,6 @@
 // "Blocks from rectangles" for programs in C and Rust (c/pinduguil.h).
+#![tactic(auto)]
+
 ghost use Rattle.std.specs.Prelude.{◌≡◌};
 ghost use Rattle.mesh.specs.Numbers.{answer_code};
 ghost use Rattle.theory_boxes.specs.Boxing.{boxed_answer};
@@ -18,8 +20,7 @@ pub fn boxed_code(answer: Boxed) -> u32
     }
 }
 
-#[unsafe(no_mangle)]
-pub extern "C" fn pinduguil_box(columns: u32, rows: u32, map: &[u8], list: &mut [u32]) -> u32
+pub fn pinduguil_box(columns: u32, rows: u32, map: &[u8], list: &mut [u32]) -> u32
     ensures { BoxesInNumbers columns rows map.now list.old result list.new }
 {
     let answer = box_blocks(columns, rows, map, list);

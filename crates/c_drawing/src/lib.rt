@@ -1,4 +1,6 @@
 // "Draw a map by number" for programs in C and Rust (c/pinduguil.h).
+#![tactic(auto)]
+
 ghost use Rattle.std.specs.Prelude.{◌≡◌};
 ghost use Rattle.mesh.specs.Numbers.{answer_code};
 ghost use Rattle.theory_draw.specs.Drawing.{drawn_answer};
@@ -19,14 +21,7 @@ pub fn drawn_code(answer: Drawn) -> u32
     }
 }
 
-#[unsafe(no_mangle)]
-pub extern "C" fn pinduguil_draw(
-    columns: u32,
-    rows: u32,
-    seed: u32,
-    draws: u32,
-    out: &mut [u8],
-) -> u32
+pub fn pinduguil_draw(columns: u32, rows: u32, seed: u32, draws: u32, out: &mut [u8]) -> u32
     ensures { DrawsInNumbers columns rows seed draws out.old result out.new }
 {
     let answer = draw(columns, rows, seed, draws, out);

@@ -1,4 +1,6 @@
 // "Judge a hand-in" for programs in C and Rust (c/pinduguil.h).
+#![tactic(auto)]
+
 ghost use Rattle.mesh.specs.Mesh.{place};
 ghost use Rattle.c_judging.specs.Numbers.{JudgesInNumbers};
 
@@ -6,8 +8,7 @@ use buffers::put_first;
 use judging::judge;
 use numbers::{NO_REQUEST, is_network, judged_code, judged_index, network_of, place_of};
 
-#[unsafe(no_mangle)]
-pub extern "C" fn pinduguil_judge(
+pub fn pinduguil_judge(
     network: u32,
     columns: u32,
     rows: u32,

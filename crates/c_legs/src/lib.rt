@@ -1,4 +1,6 @@
 // "Letters to legs" and "legs to letters" for programs in C and Rust (c/pinduguil.h).
+#![tactic(auto)]
+
 ghost use Rattle.std.specs.Prelude.{◌≡◌};
 ghost use Rattle.mesh.specs.Numbers.{answer_refusal};
 ghost use Rattle.numbers.specs.Returned.{put_returned};
@@ -44,12 +46,7 @@ fn put_written(answer: Converted, written: &mut [u64])
     }
 }
 
-#[unsafe(no_mangle)]
-pub extern "C" fn pinduguil_letters_to_legs(
-    letters: &[u8],
-    out: &mut [u8],
-    written: &mut [u64],
-) -> u32
+pub fn pinduguil_letters_to_legs(letters: &[u8], out: &mut [u8], written: &mut [u64]) -> u32
     ensures { LettersToLegsInNumbers letters.now out.old written.old result out.new written.new }
 {
     let answer = letters_to_legs(letters, out);
@@ -57,8 +54,7 @@ pub extern "C" fn pinduguil_letters_to_legs(
     converted_code(answer)
 }
 
-#[unsafe(no_mangle)]
-pub extern "C" fn pinduguil_legs_to_letters(file: &[u8], out: &mut [u8], written: &mut [u64]) -> u32
+pub fn pinduguil_legs_to_letters(file: &[u8], out: &mut [u8], written: &mut [u64]) -> u32
     ensures { LegsToLettersInNumbers file.now out.old written.old result out.new written.new }
 {
     let answer = legs_to_letters(file, out);

@@ -1,4 +1,6 @@
 // "Mark blocks" for programs in C and Rust (c/pinduguil.h).
+#![tactic(auto)]
+
 ghost use Rattle.std.specs.Prelude.{◌≡◌};
 ghost use Rattle.mesh.specs.Marking.{marked_rounds};
 ghost use Rattle.numbers.specs.Returned.{put_returned};
@@ -19,8 +21,7 @@ fn put_rounds(answer: Marked, rounds: &mut [u64])
     }
 }
 
-#[unsafe(no_mangle)]
-pub extern "C" fn pinduguil_mark(
+pub fn pinduguil_mark(
     columns: u32,
     rows: u32,
     map: &[u8],

@@ -1,4 +1,6 @@
 // "Move on" for programs in C and Rust (c/pinduguil.h), on a record of five numbers.
+#![tactic(auto)]
+
 ghost use Rattle.std.specs.Prelude.{◌≡◌, length};
 ghost use Rattle.c_moving.specs.Numbers.{is_record, packet_of, numbers_of, MovesInNumbers};
 
@@ -44,8 +46,7 @@ fn write_packet(p: Packet, xs: &mut [u32])
 }
 
 // Move on, for a record of five numbers: row, column, last hop, destination row, destination column.
-#[unsafe(no_mangle)]
-pub extern "C" fn pinduguil_move_on(
+pub fn pinduguil_move_on(
     network: u32,
     columns: u32,
     rows: u32,

@@ -1,4 +1,6 @@
 // "Pick" for programs in C and Rust (c/pinduguil.h).
+#![tactic(auto)]
+
 ghost use Rattle.std.specs.Prelude.{◌≡◌};
 ghost use Rattle.mesh.specs.Mesh.{place};
 ghost use Rattle.theory_pick.specs.Picking.{pick_of, lent_number};
@@ -39,8 +41,7 @@ fn put_hops(picked: Picked, letters: &mut [u64])
     }
 }
 
-#[unsafe(no_mangle)]
-pub extern "C" fn pinduguil_pick(
+pub fn pinduguil_pick(
     columns: u32,
     rows: u32,
     map: &[u8],

@@ -1,12 +1,13 @@
 // "Route" for programs in C and Rust (c/pinduguil.h).
+#![tactic(auto)]
+
 ghost use Rattle.mesh.specs.Mesh.{place};
 ghost use Rattle.c_routing.specs.Numbers.{RoutesInNumbers};
 
 use numbers::{NO_REQUEST, is_network, network_of, place_of, routed_code};
 use routing::route;
 
-#[unsafe(no_mangle)]
-pub extern "C" fn pinduguil_route(
+pub fn pinduguil_route(
     network: u32,
     columns: u32,
     rows: u32,
