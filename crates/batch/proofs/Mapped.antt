@@ -1,4 +1,5 @@
 -- The cases of the operation: the map's refusals as they were told, 18, or the sends on the map's marking. Assumes nothing.
+use Rattle.std.specs.Prelude.{Result, Ok, Err, ⊤}
 use mathlib.Core.Path.{◌≡◌, sym, ◌∙◌}
 use mathlib.Core.Bool.{true, false, cond, ◌||◌}
 use mathlib.Core.List.{List, [], ◌∷◌}
@@ -7,8 +8,6 @@ use borrow.Author.Tests.{ltb-false}
 use lib.Dec.{ltb}
 use lib.ListN.{length, take}
 use Rattle.mesh.specs.declared.Refusal.{Refusal}
-use Rattle.mesh.specs.declared.Checked.{Checked}
-use Rattle.mesh.specs.declared.Checked.TheVariants as checks
 use Rattle.mesh.specs.declared.Network.{Network}
 use Rattle.mesh.specs.Mesh.{mesh}
 use Rattle.mesh.specs.Tests.{Test, ◌gives◌, first}
@@ -17,7 +16,7 @@ use Rattle.mesh.specs.Rounds.{marked}
 use Rattle.mesh.specs.Routing.{send_tests, route_refusal}
 use Rattle.mesh.proofs.Numbers.{answer-refused, written-refused}
 use Rattle.theory_batch.specs.declared.Send.{Send}
-use Rattle.theory_batch.specs.declared.Batched.TheVariants.{Letters, Refused, NotSends}
+-- FIXME use Rattle.theory_batch.specs.declared.Batched.TheVariants.{Letters, Refused, NotSends}
 use Rattle.theory_batch.specs.Sends.{sends_of, uneven}
 use Rattle.theory_batch.specs.Batch.{route_call, batch_refusal, RoutesBatch}
 use Rattle.theory_batch.proofs.Sends.{sends-length}
@@ -27,11 +26,11 @@ use Rattle.marking.proofs.Marks.{marks-refused, marks-next}
 use Rattle.sends.specs.Sends.{route_call_on}
 use Rattle.batch.specs.Marked.{RoutesSends}
 
-module _ (network : Network) (columns rows : ℕ) (map sends answers out : List ℕ) {x : Checked} {marks : List ℕ} (m : MarksMap columns rows map x marks) where
+module _ (network : Network) (columns rows : ℕ) (map sends answers out : List ℕ) {x : Result ⊤ Refusal} {marks : List ℕ} (m : MarksMap columns rows map x marks) where
   abbrev list : List Test
   list = (uneven sends || ltb (length answers) (length (sends_of sends))) gives 18 ∷ []
 
-  pub map-refused : {why : Refusal} → x ≡ checks.Refused why → RoutesBatch network columns rows map sends answers out (Refused why) answers out
+  pub map-refused : {why : Refusal} → x ≡ Err why → RoutesBatch network columns rows map sends answers out (Refused why) answers out
   unfolding batch_refusal
   map-refused {why} e =
       let told = marks-refused columns rows map m list e in
@@ -41,7 +40,7 @@ module _ (network : Network) (columns rows : ℕ) (map sends answers out : List 
         writes = rw told (sym (written-refused why _ _));
       }
 
-  module _ (e : x ≡ checks.Clear) where
+  module _ (e : x ≡ Ok tt) where
     only-list : batch_refusal columns rows map sends answers ≡ cond (uneven sends || ltb (length answers) (length sends / 4)) 18 0
     unfolding batch_refusal first
     only-list = marks-next columns rows map m e list ∙ rw (sends-length sends)

@@ -1,4 +1,6 @@
 -- The sends of a table, one after another: with those to come the buffers will be as the definition says. Assumes nothing.
+use Rattle.std.specs.Prelude.{Result}
+use Rattle.mesh.specs.declared.Refusal.{Refusal}
 use mathlib.Core.Path.{◌≡◌, refl, sym, ap, ◌∙◌}
 use mathlib.Core.List.{List}
 use Prim.Native.Nat.{ℕ, ◌+◌, ◌*◌, ◌≤◌, ◌<◌}
@@ -6,7 +8,6 @@ use native.Mathlib.Nat.{add-zero}
 use native.Mathlib.Omega.{arith}
 use lib.ListN.{length, drop, set, length-set, length-append}
 use lib.Seq.{drop-drop}
-use Rattle.mesh.specs.declared.Routed.{Routed}
 use Rattle.mesh.specs.Numbers.{answer_code}
 use Rattle.mesh.specs.Routing.{routed_answer}
 use Rattle.theory_batch.specs.declared.Send.{Send}
@@ -38,7 +39,7 @@ module _ {route : Send → List ℕ → Call} {sends answers₀ out₀ : List �
       record { within = omega arith; answers-size = refl; out-size = refl; entries = refl; text = refl; count = omega arith }
 
   module _ {i at : ℕ} {answers out : List ℕ} (t : Sending route sends answers₀ out₀ i at answers out) where
-    pub sending-more : {x : Send} {r : Routed} {out' : List ℕ} {e n : ℕ} → 4 * i + 3 < length sends → x ≡ send_at sends i →
+    pub sending-more : {x : Send} {r : Result ℕ Refusal} {out' : List ℕ} {e n : ℕ} → 4 * i + 3 < length sends → x ≡ send_at sends i →
         RoutesSend route x out at r out' → e ≡ answer_code (routed_answer r) → n ≡ wrote r → Sending route sends answers₀ out₀ (i + 1) (at + n) (set answers i e) out'
     unfolding over calls answers_of letters_of
     sending-more {x = x} {out' = out'} {e = e} {n = n} h is_x s is-e is-n =

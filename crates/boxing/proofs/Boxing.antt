@@ -1,4 +1,5 @@
 -- The refusals in their order, and where none applies what stands in the list. Assumes nothing.
+use Rattle.std.specs.Prelude.{Result, Ok, Err, ⊤}
 use mathlib.Core.Path.{◌≡◌, refl, ap, sym, ◌∙◌}
 use mathlib.Core.List.{List, append-nil}
 use Prim.Native.Nat.{ℕ, zero, suc, ◌+◌, ◌*◌, ◌≤◌, ◌<◌}
@@ -7,8 +8,6 @@ use native.Mathlib.Omega.{arith}
 use lib.ListN.{length, get_or}
 use Rattle.mesh.specs.declared.Refusal.{Refusal}
 use Rattle.mesh.specs.declared.Refusal.TheVariants.{Room as NoRoom}
-use Rattle.mesh.specs.declared.Checked.{Checked}
-use Rattle.mesh.specs.declared.Checked.TheVariants as checks
 use Rattle.mesh.specs.Mesh.{Mesh, mesh}
 use Rattle.mesh.specs.Tests.{first}
 use Rattle.mesh.specs.Numbers.{number, checked_number}
@@ -19,7 +18,6 @@ use Rattle.mesh.proofs.Tests.{told-refused}
 use Rattle.mesh.proofs.Maps.{accepted}
 use Rattle.mesh.proofs.Counts.{how_many-le}
 use Rattle.maps.proofs.Checks.{clear-few}
-use Rattle.theory_boxes.specs.declared.Boxed.TheVariants.{Boxes, Refused}
 use Rattle.theory_boxes.specs.Boxes.{fault_boxes, boxes}
 use Rattle.theory_boxes.specs.Merging.{Merges}
 use Rattle.theory_boxes.specs.Boxing.{numbers, room_for, box_refusal, ListsBoxes}
@@ -50,11 +48,11 @@ pub few : (columns rows : ℕ) (map : List ℕ) {n : ℕ} → first (map_tests c
 few columns rows map clear count = omega (arith, how_many-le 1 map, clear-few columns rows map clear)
 
 module _ (columns rows : ℕ) (map list : List ℕ) where
-  refused : (why : Refusal) → box_refusal columns rows map list ≡ number why → ListsBoxes columns rows map list (Refused why) list
+  refused : (why : Refusal) → box_refusal columns rows map list ≡ number why → ListsBoxes columns rows map list (Err why) list
   refused why e = record { answers = rw e (sym (answer-refused why _)); writes = rw e (sym (written-refused why _ _)) }
 
-  pub map-refused : {x : Checked} {why : Refusal} → x ≡ checks.Refused why → checked_number x ≡ first (map_tests columns rows map) →
-      ListsBoxes columns rows map list (Refused why) list
+  pub map-refused : {x : Result ⊤ Refusal} {why : Refusal} → x ≡ Err why → checked_number x ≡ first (map_tests columns rows map) →
+      ListsBoxes columns rows map list (Err why) list
   unfolding box_refusal
   map-refused {why = why} e told = refused why (told-refused (map_tests columns rows map) _ told e)
 
@@ -62,7 +60,7 @@ module _ (columns rows : ℕ) (map list : List ℕ) where
     abbrev w : Mesh
     w = mesh columns rows map
 
-    pub room-refused : length list < 4 * n → ListsBoxes columns rows map list (Refused NoRoom) list
+    pub room-refused : length list < 4 * n → ListsBoxes columns rows map list (Err NoRoom) list
     room-refused h = refused NoRoom ((refusal-10 columns rows map list).1 (clear, rw count at h))
 
     module _ (enough : 4 * n ≤ length list) where
@@ -101,7 +99,7 @@ module _ (columns rows : ℕ) (map list : List ℕ) where
           counted : k ≡ length (boxes w)
           counted = sym (length-boxes zs 0 k) ∙ ap length listed
 
-          pub boxes-done : {after : List ℕ} → Cleared zs (4 * k) (4 * n) after → ListsBoxes columns rows map list (Boxes k) after
+          pub boxes-done : {after : List ℕ} → Cleared zs (4 * k) (4 * n) after → ListsBoxes columns rows map list (Ok k) after
           unfolding room_for
           boxes-done {after} clears =
               let room : 4 * n ≡ 4 * how_many 1 map = ap (λ x. 4 * x) count in

@@ -1,4 +1,6 @@
 -- The promise of "A whole table of sends", told in numbers. Assumes nothing.
+use Rattle.std.specs.Prelude.{Result}
+use Rattle.theory_batch.specs.declared.BatchRefusal.{BatchRefusal}
 use mathlib.Core.Path.{◌≡◌, refl, ap, ◌∙◌}
 use mathlib.Core.Bool.{true, false}
 use mathlib.Core.List.{List}
@@ -7,13 +9,12 @@ use Rattle.mesh.specs.declared.Network.{Network}
 use Rattle.mesh.specs.Numbers.{answer_refusal, is_network, network_of, no_request}
 use Rattle.mesh.proofs.Numbers.{answer-refusal}
 use Rattle.numbers.specs.Returned.{put_returned}
-use Rattle.theory_batch.specs.declared.Batched.{Batched}
 use Rattle.theory_batch.specs.Batch.{batched_answer, RoutesBatch}
 use Rattle.c_batch.specs.Numbers.{RoutesBatchInNumbers}
 
 module _ {network columns rows : ℕ} {map sends answers out letters : List ℕ} where
   -- the network that the operation is given is that of the call
-  pub routes-batch : {n : Network} → is_network network ≡ true → n ≡ network_of network → {x : ℕ} {answers' out' letters' : List ℕ} (r : Batched) →
+  pub routes-batch : {n : Network} → is_network network ≡ true → n ≡ network_of network → {x : ℕ} {answers' out' letters' : List ℕ} (r : Result ℕ BatchRefusal) →
       RoutesBatch n columns rows map sends answers out r answers' out' → letters' ≡ put_returned (batched_answer r) letters →
       x ≡ answer_refusal (batched_answer r) → RoutesBatchInNumbers network columns rows map sends answers out letters x answers' out' letters'
   routes-batch t en r m ec e =

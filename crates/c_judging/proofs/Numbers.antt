@@ -1,9 +1,10 @@
 -- The verdict, told in numbers. Assumes nothing.
+use Rattle.std.specs.Prelude.{Result}
+use Rattle.mesh.specs.declared.NotPassed.{NotPassed}
 use mathlib.Core.Path.{◌≡◌, refl, ap, ◌∙◌}
 use mathlib.Core.Bool.{true, false}
 use mathlib.Core.List.{List}
 use Prim.Native.Nat.{ℕ}
-use Rattle.mesh.specs.declared.Judged.{Judged}
 use Rattle.mesh.specs.declared.Network.{Network}
 use Rattle.mesh.specs.declared.Place.{Place}
 use Rattle.mesh.specs.Numbers.{is_network, network_of, no_request}
@@ -14,7 +15,7 @@ use Rattle.c_judging.specs.Numbers.{JudgesInNumbers}
 module _ {network columns rows : ℕ} {map xs index : List ℕ} where
   -- the network and the places that the operation is given are those of the call
   pub judges : {n : Network} {s s' d d' : Place} → is_network network ≡ true → n ≡ network_of network → s ≡ s' → d ≡ d' →
-      {x i : ℕ} {after : List ℕ} (r : Judged) → judged_verdict r ≡ judgement n columns rows map s d xs →
+      {x i : ℕ} {after : List ℕ} (r : Result ℕ NotPassed) → judged_verdict r ≡ judgement n columns rows map s d xs →
       i ≡ verdict_index (judged_verdict r) → after ≡ put_first i index → x ≡ verdict_code (judged_verdict r) →
       JudgesInNumbers network columns rows map s' d' xs index x after
   judges t en es ed r m ei ea e =

@@ -1,4 +1,7 @@
 -- Records of five numbers, and the promise of "Move on" told in numbers. Assumes nothing.
+use Rattle.std.specs.Prelude.{Option, Result}
+use Rattle.mesh.specs.declared.Heading.{Heading}
+use Rattle.mesh.specs.declared.Refusal.{Refusal}
 use mathlib.Core.Path.{◌≡◌, refl, sym, ap, ◌∙◌}
 use mathlib.Core.Bool.{true, false}
 use mathlib.Core.List.{List, [], ◌∷◌}
@@ -6,7 +9,6 @@ use Prim.Native.Nat.{ℕ}
 use native.Mathlib.Omega.{arith}
 use lib.ListN.{length, set, get_or}
 use borrow.Author.Tests.{eqb-true}
-use Rattle.mesh.specs.declared.Moved.{Moved}
 use Rattle.mesh.specs.declared.Network.{Network}
 use Rattle.mesh.specs.declared.Packet.{Packet}
 use Rattle.mesh.specs.Numbers.{is_network, network_of, no_request}
@@ -33,7 +35,7 @@ filled xs a b c d e h = ap (λ ys. set (set (set (set (set ys 0 a) 1 b) 2 c) 3 d
 
 module _ {network columns rows : ℕ} {map xs : List ℕ} where
   -- the network that the operation is given is that of the call, and the record is of its numbers
-  pub moves : {x : ℕ} {after : List ℕ} {n : Network} {p q : Packet} {m : Moved} → is_network network ≡ true → n ≡ network_of network →
+  pub moves : {x : ℕ} {after : List ℕ} {n : Network} {p q : Packet} {m : Result (Option Heading) Refusal} → is_network network ≡ true → n ≡ network_of network →
       is_record xs ≡ true → p ≡ packet_of xs → MovesOn n columns rows map p m q → after ≡ numbers_of q → x ≡ told_code (moved_told m) →
       MovesInNumbers network columns rows map xs x after
   moves t en u ep m ea e =

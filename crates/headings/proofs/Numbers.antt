@@ -1,4 +1,5 @@
 -- The numbers of headings tell them apart, as their letters do, and their codes are worked out from them. Assumes nothing.
+use Rattle.std.specs.Prelude.{Some}
 use mathlib.Core.Path.{◌≡◌, refl, ap}
 use mathlib.Core.Bool.{true}
 use Prim.Native.Nat.{◌-◌, ◌/◌, ◌≤◌}
@@ -8,12 +9,11 @@ use lib.Bits.{bit_xor}
 use lib.Dec.{eqb}
 use Rattle.mesh.specs.declared.Heading.{Heading}
 use Rattle.mesh.specs.declared.Heading.TheVariants.{East as E, North as N, South as S, West as W}
-use Rattle.mesh.specs.declared.Last.TheVariants.{Made as made}
 use Rattle.mesh.specs.Headings.{same, code, heading_number, last_of}
 use Rattle.mesh.proofs.Bools.{bool-ext}
 use Rattle.mesh.proofs.Headings.{same_self, same-heading}
 
-numbered : (h : Heading) → last_of (heading_number h) ≡ made h
+numbered : (h : Heading) → last_of (heading_number h) ≡ Some h
 unfolding last_of
 numbered E = refl
 numbered N = refl

@@ -1,21 +1,17 @@
 -- A hop is tested in the order of the definition, so each mistake is the first whose test holds. Assumes nothing.
+use Rattle.std.specs.Prelude.{Option, Some, None, Result, Err}
+use Rattle.mesh.specs.declared.TurnRule.{TurnRule}
 use mathlib.Core.Path.{◌≡◌, refl, sym, ◌∙◌}
 use mathlib.Core.Bool.{Bool, true, false, not}
 use Prim.Native.Nat.{ℕ}
 use native.Mathlib.Omega.{arith}
 use borrow.Author.Tests.{not-true, not-false}
-use Rattle.mesh.specs.declared.Broken.{Broken}
-use Rattle.mesh.specs.declared.Broken.TheVariants.{Neither, Rule1, Rule2}
+use Rattle.mesh.specs.declared.TurnRule.TheVariants.{Rule1, Rule2}
 use Rattle.mesh.specs.declared.Heading.{Heading}
 use Rattle.mesh.specs.declared.Heading.TheVariants.{East as E, North as N, South as S, West as W}
-use Rattle.mesh.specs.declared.Last.{Last}
-use Rattle.mesh.specs.declared.Last.TheVariants.{None as none, Made as made}
-use Rattle.mesh.specs.declared.Letter.TheVariants.{Hop}
 use Rattle.mesh.specs.declared.Mistake.{Mistake}
 use Rattle.mesh.specs.declared.Mistake.TheVariants.{LeavesMesh, Reverses, BreaksRule1, BreaksRule2, EntersBlock}
 use Rattle.mesh.specs.declared.Network.{Network}
-use Rattle.mesh.specs.declared.Tested.{Tested}
-use Rattle.mesh.specs.declared.Tested.TheVariants.{Wrong}
 use Rattle.mesh.specs.declared.Packet.{Packet}
 use Rattle.mesh.specs.Mesh.{Mesh}
 use Rattle.mesh.specs.Headings.{row_after, column_after, opposite, same, last_is}
@@ -47,29 +43,29 @@ same_ahead N = refl
 same_ahead S = refl
 same_ahead W = refl
 
-same-may : (west : ℕ → Bool) (c : ℕ) (h : Heading) → turn_breaks west c h h ≡ Neither
+same-may : (west : ℕ → Bool) (c : ℕ) (h : Heading) → turn_breaks west c h h ≡ None
 unfolding turn_breaks breaks same
 same-may west c E = refl
 same-may west c N = refl
 same-may west c S = refl
 same-may west c W = refl
 
-pub straight-ahead : (l : Last) (h : Heading) → last_is l h ≡ true → turns_back l h ≡ false
+pub straight-ahead : (l : Option Heading) (h : Heading) → last_is l h ≡ true → turns_back l h ≡ false
 unfolding last_is turns_back
-straight-ahead none h e = refl
-straight-ahead (made g) h e = rw (same-heading g h e) (same_ahead h)
+straight-ahead None h e = refl
+straight-ahead (Some g) h e = rw (same-heading g h e) (same_ahead h)
 
-pub straight-may : (west : ℕ → Bool) (c : ℕ) (l : Last) (h : Heading) → last_is l h ≡ true → hop_breaks west c l h ≡ Neither
+pub straight-may : (west : ℕ → Bool) (c : ℕ) (l : Option Heading) (h : Heading) → last_is l h ≡ true → hop_breaks west c l h ≡ None
 unfolding last_is hop_breaks
-straight-may west c none h e = refl
-straight-may west c (made g) h e = rw (same-heading g h e) (same-may west c h)
+straight-may west c None h e = refl
+straight-may west c (Some g) h e = rw (same-heading g h e) (same-may west c h)
 
 module _ (network : Network) (w : Mesh) (p : Packet) (h : Heading) where
-  wrong : (m : Mistake) → mistake_number m ≡ letter_mistake (trip_of network w p) (at p) (Hop h) → Tests network w p h (Wrong m)
+  wrong : (m : Mistake) → mistake_number m ≡ letter_mistake (trip_of network w p) (at p) (Some h) → Tests network w p h (Err m)
   wrong m e = record { told = e; onward = λ q. let z : ◌≡◌ {A = ℕ} 0 1 = cc in absurd (omega (arith, z)) }
 
   module _ {s : Bool} (is-s : s ≡ stays w.columns w.rows h p.place.row.0 p.place.column.0) where
-    pub leaves : not s ≡ true → Tests network w p h (Wrong LeavesMesh)
+    pub leaves : not s ≡ true → Tests network w p h (Err LeavesMesh)
     unfolding letter_mistake hop_tests first
     leaves e = wrong LeavesMesh (rw (← is-s, not-true s e))
 
@@ -77,16 +73,16 @@ module _ (network : Network) (w : Mesh) (p : Packet) (h : Heading) where
     on-mesh on = sym is-s ∙ not-false s on
 
     module _ (on : not s ≡ false) {b : Bool} (is_b : b ≡ turns_back p.last h) where
-      pub turns-back : b ≡ true → Tests network w p h (Wrong Reverses)
+      pub turns-back : b ≡ true → Tests network w p h (Err Reverses)
       unfolding letter_mistake hop_tests first
       turns-back e = wrong Reverses (rw (on-mesh on, ← is_b, e))
 
-      module _ (ahead : b ≡ false) {t : Broken} (is-t : t ≡ hop_breaks (turns_west network) p.place.column.0 p.last h) where
-        pub breaks-1 : t ≡ Rule1 → Tests network w p h (Wrong BreaksRule1)
+      module _ (ahead : b ≡ false) {t : Option TurnRule} (is-t : t ≡ hop_breaks (turns_west network) p.place.column.0 p.last h) where
+        pub breaks-1 : t ≡ (Some Rule1) → Tests network w p h (Err BreaksRule1)
         unfolding letter_mistake hop_tests first
         breaks-1 e = wrong BreaksRule1 (rw (on-mesh on, ← is_b, ahead, ← is-t, e))
 
-        pub breaks-2 : t ≡ Rule2 → Tests network w p h (Wrong BreaksRule2)
+        pub breaks-2 : t ≡ (Some Rule2) → Tests network w p h (Err BreaksRule2)
         unfolding letter_mistake hop_tests first
         breaks-2 e = wrong BreaksRule2 (rw (on-mesh on, ← is_b, ahead, ← is-t, e))
 
@@ -96,7 +92,7 @@ module _ (network : Network) (w : Mesh) (p : Packet) (h : Heading) where
       is-blocked =
           rw is-q (sym (ahead_after (bad w) w.columns w.rows p.place.row.0 p.place.column.0 h (on-mesh on)))
 
-      module _ (ahead : turns_back p.last h ≡ false) (may : hop_breaks (turns_west network) p.place.column.0 p.last h ≡ Neither) where
+      module _ (ahead : turns_back p.last h ≡ false) (may : hop_breaks (turns_west network) p.place.column.0 p.last h ≡ None) where
         by-block : (x : Bool) → bad w q.place.row.0 q.place.column.0 ≡ x → Tests network w p h (entered w q)
         unfolding entered letter_mistake hop_tests first
         by-block true e = rw e (wrong EntersBlock (rw (on-mesh on, ahead, may, ← is-blocked, e)))
@@ -107,5 +103,5 @@ module _ (network : Network) (w : Mesh) (p : Packet) (h : Heading) where
               onward = λ {after} same. let z : after ≡ q = cc in z ∙ is-q;
             })
 
-        pub enters : {x : Tested} → x ≡ entered w q → Tests network w p h x
+        pub enters : {x : Result Packet Mistake} → x ≡ entered w q → Tests network w p h x
         enters e = rw e (by-block _ refl)

@@ -1,8 +1,7 @@
 -- Where a packet is after n hops one way, what moving it so asks, and how far the way is free. Assumes nothing.
-use Rattle.std.specs.Prelude.{◌≡◌, Bool, true, false, ℕ, ◌+◌, ◌-◌, ◌≤◌, ◌<◌}
+use Rattle.std.specs.Prelude.{◌≡◌, Bool, true, false, ℕ, ◌+◌, ◌-◌, ◌≤◌, ◌<◌, Some}
 use Rattle.mesh.specs.declared.Heading.{Heading}
 use Rattle.mesh.specs.declared.Heading.TheVariants.{East as E, North as N, South as S, West as W}
-use Rattle.mesh.specs.declared.Last.TheVariants.{Made as made}
 use Rattle.mesh.specs.declared.Packet.{Packet}
 use Rattle.mesh.specs.Hops.{packet_at}
 
@@ -22,7 +21,7 @@ column_by W n c = c - n
 -- the record after n hops that way, of which there is at least one
 unfoldable pub moved_by : Heading → ℕ → Packet → Packet
 moved_by h n p =
-    packet_at (record { row = row_by h n p.place.row.0; column = column_by h n p.place.column.0; last = made h }) p.destination
+    packet_at (record { row = row_by h n p.place.row.0; column = column_by h n p.place.column.0; last = Some h }) p.destination
 
 -- the numbers of that place can be had
 pub record Lands (h : Heading) (n r c : ℕ) : Type 0 where

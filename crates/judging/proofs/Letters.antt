@@ -1,4 +1,5 @@
 -- What the loop over the letters keeps. Assumes nothing.
+use Rattle.std.specs.Prelude.{Option, Some, None, Result, Ok, Err}
 use mathlib.Core.Path.{◌≡◌, refl, sym, ◌∙◌}
 use mathlib.Core.Logic.{inl, inr}
 use mathlib.Core.Bool.{true, false, cond}
@@ -9,12 +10,8 @@ use native.Mathlib.Omega.{arith}
 use lib.ListN.{length, get_or, drop, drop_of_length-le}
 use lib.Seq.{drop-cons}
 use Rattle.mesh.specs.declared.Heading.{Heading}
-use Rattle.mesh.specs.declared.Letter.{Letter}
-use Rattle.mesh.specs.declared.Letter.TheVariants.{Hop, Other}
 use Rattle.mesh.specs.declared.Mistake.{Mistake}
 use Rattle.mesh.specs.declared.Mistake.TheVariants.{NoLetter, NotArrived}
-use Rattle.mesh.specs.declared.Tested.{Tested}
-use Rattle.mesh.specs.declared.Tested.TheVariants.{Lawful, Wrong}
 use Rattle.mesh.specs.declared.Network.{Network}
 use Rattle.mesh.specs.declared.Packet.{Packet}
 use Rattle.mesh.specs.Mesh.{Mesh}
@@ -32,7 +29,7 @@ use Rattle.hops.specs.Tests.{Tests}
 use Rattle.hops.proofs.Landing.{stays_on}
 
 -- a letter with nothing wrong stays on the mesh
-lawful-stays : (t : Trip) (p : At) (h : Heading) → letter_mistake t p (Hop h) ≡ 0 → stays t.columns t.rows h p.row p.column ≡ true
+lawful-stays : (t : Trip) (p : At) (h : Heading) → letter_mistake t p (Some h) ≡ 0 → stays t.columns t.rows h p.row p.column ≡ true
 unfolding letter_mistake hop_tests first
 lawful-stays t p h e =
     elim (value (stays t.columns t.rows h p.row p.column))
@@ -53,26 +50,26 @@ module _ (network : Network) (w : Mesh) (packet : Packet) (xs : List ℕ) where
 
   module _ {p : Packet} {n i : ℕ} (s : Judging network w packet p xs n i) where
     module _ (h : i < n) where
-      rest-letter : {l : Letter} → l ≡ named (get_or xs i 0) →
+      rest-letter : {l : Option Heading} → l ≡ named (get_or xs i 0) →
           judge (trip_of network w packet) (at packet) 0 xs ≡ unless (letter_mistake (trip_of network w p) (at p) l) i (judge (trip_of network w p) (follow l (at p)) (suc i) (drop (suc i) xs))
       unfolding judge
       rest-letter e = let within : i < length xs = omega (arith, s.all) in s.rest ∙ rw (drop-cons xs i 0 within, e)
 
-      pub judging-other : {l : Letter} → l ≡ named (get_or xs i 0) → l ≡ Other →
+      pub judging-other : {l : Option Heading} → l ≡ named (get_or xs i 0) → l ≡ None →
           failed (mistake_number NoLetter) i ≡ judge (trip_of network w packet) (at packet) 0 xs
       unfolding letter_mistake unless
       judging-other e o = sym (rest-letter e ∙ rw o)
 
-      module _ {l : Letter} {hop : Heading} {t : Tested} (e : l ≡ named (get_or xs i 0)) (o : l ≡ Hop hop) (x : Tests network w p hop t) where
-        pub judging-wrong : {m : Mistake} → t ≡ Wrong m → failed (mistake_number m) i ≡ judge (trip_of network w packet) (at packet) 0 xs
+      module _ {l : Option Heading} {hop : Heading} {t : Result Packet Mistake} (e : l ≡ named (get_or xs i 0)) (o : l ≡ Some hop) (x : Tests network w p hop t) where
+        pub judging-wrong : {m : Mistake} → t ≡ Err m → failed (mistake_number m) i ≡ judge (trip_of network w packet) (at packet) 0 xs
         unfolding unless
         judging-wrong {m} q =
             sym (rest-letter e ∙ rw (o, ← x.told, q, mistake-some m))
 
-        pub judging-on : {after : Packet} → t ≡ Lawful after → Judging network w packet after xs n (i + 1)
+        pub judging-on : {after : Packet} → t ≡ Ok after → Judging network w packet after xs n (i + 1)
         unfolding unless follow moved
         judging-on q =
-            let none : letter_mistake (trip_of network w p) (at p) (Hop hop) ≡ 0 = sym x.told ∙ rw q in
+            let none : letter_mistake (trip_of network w p) (at p) (Some hop) ≡ 0 = sym x.told ∙ rw q in
             rw (x.onward q)
             (record {
               within = omega arith;

@@ -1,12 +1,11 @@
 -- The cases of "Judge a hand-in". Assumes nothing.
+use Rattle.std.specs.Prelude.{Result, Ok, Err, ⊤}
 use mathlib.Core.Path.{◌≡◌}
 use mathlib.Core.List.{List}
 use Prim.Native.Nat.{ℕ}
 use lib.ListN.{length, take}
 use Rattle.mesh.specs.declared.Refusal.{Refusal}
-use Rattle.mesh.specs.declared.Checked.{Checked}
-use Rattle.mesh.specs.declared.Checked.TheVariants as checks
-use Rattle.mesh.specs.declared.Judged.TheVariants.{Refused}
+-- FIXME use Rattle.mesh.specs.declared.Judged.TheVariants.{Refused}
 use Rattle.mesh.specs.declared.Network.{Network}
 use Rattle.mesh.specs.declared.Place.{Place}
 use Rattle.mesh.specs.Mesh.{Mesh, mesh}
@@ -27,23 +26,23 @@ unless-refused : (why : Refusal) (rest : Verdict) → judged_verdict (Refused wh
 unfolding unless
 unless-refused why rest = rw (number-some why)
 
-module _ (network : Network) (w : Mesh) (s d : Place) (xs : List ℕ) {x : Checked} (told : checked_number x ≡ first (place_tests w s d)) where
-  pub places-refused : {why : Refusal} → x ≡ checks.Refused why → judged_verdict (Refused why) ≡ judgement_on network w s d xs
+module _ (network : Network) (w : Mesh) (s d : Place) (xs : List ℕ) {x : Result ⊤ Refusal} (told : checked_number x ≡ first (place_tests w s d)) where
+  pub places-refused : {why : Refusal} → x ≡ Err why → judged_verdict (Refused why) ≡ judgement_on network w s d xs
   unfolding judgement_on
   places-refused {why} e = let t = rw e at told in rw (← t) (unless-refused why _)
 
-  pub letters-judged : x ≡ checks.Clear → judge (trip_on network w d) (fresh s) 0 xs ≡ judgement_on network w s d xs
+  pub letters-judged : x ≡ Ok tt → judge (trip_on network w d) (fresh s) 0 xs ≡ judgement_on network w s d xs
   unfolding judgement_on judge_from unless
   letters-judged e = rw (told-clear (place_tests w s d) e told)
 
-module _ (network : Network) (columns rows : ℕ) (map : List ℕ) (s d : Place) (xs : List ℕ) {x : Checked} {marks : List ℕ} (m : MarksMap columns rows map x marks) where
-  pub map-refused : {why : Refusal} → x ≡ checks.Refused why → judged_verdict (Refused why) ≡ judgement network columns rows map s d xs
+module _ (network : Network) (columns rows : ℕ) (map : List ℕ) (s d : Place) (xs : List ℕ) {x : Result ⊤ Refusal} {marks : List ℕ} (m : MarksMap columns rows map x marks) where
+  pub map-refused : {why : Refusal} → x ≡ Err why → judged_verdict (Refused why) ≡ judgement network columns rows map s d xs
   unfolding judgement
   map-refused {why} e =
       let told = marks-refused columns rows map m (place_tests (marked (mesh columns rows map)) s d) e in
       rw told (unless-refused why _)
 
-  pub marked-judged : x ≡ checks.Clear → judgement_on network (mesh columns rows (take (length map) marks)) s d xs ≡ judgement network columns rows map s d xs
+  pub marked-judged : x ≡ Ok tt → judgement_on network (mesh columns rows (take (length map) marks)) s d xs ≡ judgement network columns rows map s d xs
   unfolding judgement judgement_on
   marked-judged e =
       rw (m.marks e, marks-next columns rows map m e (place_tests (marked (mesh columns rows map)) s d))

@@ -1,4 +1,5 @@
 -- The cases of "Mark blocks", and what an operation on a marking starts from. Assumes nothing.
+use Rattle.std.specs.Prelude.{Result, Ok, Err, ⊤}
 use mathlib.Core.Path.{◌≡◌, sym, ap, ◌∙◌}
 use mathlib.Core.Bool.{cond}
 use mathlib.Core.List.{List, [], ◌∷◌, ◌++◌}
@@ -10,9 +11,7 @@ use lib.ListN.{length, take, drop}
 use lib.Seq.{take_at}
 use Rattle.mesh.specs.declared.Refusal.{Refusal}
 use Rattle.mesh.specs.declared.Refusal.TheVariants.{Room}
-use Rattle.mesh.specs.declared.Checked.{Checked}
-use Rattle.mesh.specs.declared.Checked.TheVariants as checks
-use Rattle.mesh.specs.declared.Marked.TheVariants.{Blocks, Refused}
+-- FIXME use Rattle.mesh.specs.declared.Marked.TheVariants.{Blocks, Refused}
 use Rattle.mesh.specs.Mesh.{mesh}
 use Rattle.mesh.specs.Tests.{Test, ◌gives◌, first}
 use Rattle.mesh.specs.Numbers.{number, checked_number, answer, written}
@@ -47,8 +46,8 @@ module _ (columns rows : ℕ) (map : List ℕ) (clear : first (map_tests columns
     front-sized = rw (front, e) marked-sized
 
 module _ (columns rows : ℕ) (map : List ℕ) where
-  pub map-not-marked : {x : Checked} (why : Refusal) (after : List ℕ) → x ≡ checks.Refused why →
-      checked_number x ≡ first (map_tests columns rows map) → MarksMap columns rows map (checks.Refused why) after
+  pub map-not-marked : {x : Result ⊤ Refusal} (why : Refusal) (after : List ℕ) → x ≡ Err why →
+      checked_number x ≡ first (map_tests columns rows map) → MarksMap columns rows map (Err why) after
   map-not-marked why after e h =
       record {
         checks = ap checked_number (sym e) ∙ h;
@@ -56,16 +55,16 @@ module _ (columns rows : ℕ) (map : List ℕ) where
       }
 
   pub map-marked : {new : List ℕ} (rest : List ℕ) → first (map_tests columns rows map) ≡ 0 →
-      new ≡ (marked (mesh columns rows map)).map → MarksMap columns rows map checks.Clear (new ++ rest)
+      new ≡ (marked (mesh columns rows map)).map → MarksMap columns rows map Ok tt (new ++ rest)
   map-marked rest clear e = record { checks = sym clear; marks = λ q. front columns rows map clear e rest ∙ e }
 
   -- what an operation on a marking starts from
-  module _ {x : Checked} {after : List ℕ} (m : MarksMap columns rows map x after) where
+  module _ {x : Result ⊤ Refusal} {after : List ℕ} (m : MarksMap columns rows map x after) where
     -- refused: so is the operation, whatever it tests besides
-    pub marks-refused : {why : Refusal} (others : List Test) → x ≡ checks.Refused why → first (map_tests columns rows map ++ others) ≡ number why
+    pub marks-refused : {why : Refusal} (others : List Test) → x ≡ Err why → first (map_tests columns rows map ++ others) ≡ number why
     marks-refused others e = told-refused (map_tests columns rows map) others m.checks e
 
-    module _ (e : x ≡ checks.Clear) where
+    module _ (e : x ≡ Ok tt) where
       pub marks-clear : first (map_tests columns rows map) ≡ 0
       marks-clear = told-clear (map_tests columns rows map) e m.checks
 
@@ -91,7 +90,7 @@ module _ (columns rows : ℕ) (map out : List ℕ) where
         writes = rw e (sym (written-refused why _ _));
       }
 
-  pub map-refused : {x : Checked} {why : Refusal} → x ≡ checks.Refused why → checked_number x ≡ first (map_tests columns rows map) →
+  pub map-refused : {x : Result ⊤ Refusal} {why : Refusal} → x ≡ Err why → checked_number x ≡ first (map_tests columns rows map) →
       MarksBlocks columns rows map out (Refused why) out
   unfolding mark_refusal
   map-refused {why = why} e told = refused why (told-refused (map_tests columns rows map) room told e)

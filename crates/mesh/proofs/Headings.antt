@@ -1,4 +1,5 @@
 -- Headings, their letters and their codes tell one another apart. Assumes nothing.
+use Rattle.std.specs.Prelude.{Some, None}
 use mathlib.Core.Path.{◌≡◌, refl, ap}
 use mathlib.Core.Logic.{inl, inr}
 use mathlib.Core.Bool.{true}
@@ -6,13 +7,12 @@ use Prim.Native.Nat.{ℕ, zero, suc, ◌<◌}
 use native.Mathlib.Omega.{arith}
 use borrow.Author.Tests.{eqb-true, eq-eqb}
 use lib.Dec.{eqb}
-use Rattle.mesh.specs.declared.Letter.TheVariants.{Hop, Other}
 use Rattle.mesh.specs.Headings.{Heading, E, N, S, W, letter, same, named, code, direction}
 use Rattle.mesh.proofs.Bools.{value}
 
 -- Letters
 
-pub letter-named : (h : Heading) → named (letter h) ≡ Hop h
+pub letter-named : (h : Heading) → named (letter h) ≡ Some h
 unfolding named
 letter-named E = refl
 letter-named N = refl
@@ -22,7 +22,7 @@ letter-named W = refl
 -- a byte with what it names
 pub data Named (x : ℕ) : Type 0 where
   is-hop : (h : Heading) → x ≡ letter h → Named x
-  is-other : named x ≡ Other → Named x
+  is-other : named x ≡ None → Named x
 
 pub name : (x : ℕ) → Named x
 unfolding named
@@ -42,11 +42,11 @@ name x =
           ]
     ]
 
-pub named-hop : (x : ℕ) (h : Heading) → named x ≡ Hop h → x ≡ letter h
+pub named-hop : (x : ℕ) (h : Heading) → named x ≡ Some h → x ≡ letter h
 named-hop x h e =
     elim (name x) [
       | is-hop g s ↦
-          let n : named x ≡ Hop g = rw s (letter-named g) in
+          let n : named x ≡ Some g = rw s (letter-named g) in
           let same : g ≡ h = cc in
           rw (← same) s
       | is-other o ↦ cc

@@ -1,4 +1,5 @@
 -- Packets and places of the mesh, and what a lawful hop is made of. Assumes nothing.
+use Rattle.std.specs.Prelude.{Option, Some}
 use mathlib.Core.Path.{◌≡◌, refl}
 use mathlib.Core.Bool.{Bool, true, false, not}
 use Prim.Native.Nat.{ℕ, ◌<◌}
@@ -6,14 +7,14 @@ use native.Mathlib.Omega.{arith}
 use borrow.Author.Tests.{ltb-true, lt-ltb, not-true}
 use lib.Dec.{ltb}
 use Rattle.mesh.specs.Mesh.{Mesh, on_mesh}
-use Rattle.mesh.specs.Headings.{Heading, E, N, S, W, Last, made, row_after, column_after, opposite, same}
+use Rattle.mesh.specs.Headings.{Heading, E, N, S, W, row_after, column_after, opposite, same}
 use Rattle.mesh.specs.Turns.{breaks, turn_breaks, hop_breaks, reverses, turns_back, may_turn}
 use Rattle.mesh.specs.Rules.{Trip, blocked}
 use Rattle.mesh.specs.Hops.{At, stays, lawful}
 use Rattle.mesh.proofs.Bools.{and_both, and_intro}
 
 -- a packet at (r, c) whose last hop is l
-abbrev pub state : ℕ → ℕ → Last → At
+abbrev pub state : ℕ → ℕ → Option Heading → At
 state r c l = record { row = r; column = c; last = l }
 
 -- (r, c) is a place of the mesh exactly if both numbers are small enough
@@ -36,7 +37,7 @@ stays_on S i j s = (omega arith, j)
 stays_on W i j s = (i, omega arith)
 
 -- going straight on is permitted everywhere
-pub straight-on : (west : ℕ → Bool) (c : ℕ) (h : Heading) → may_turn west c (made h) h ≡ true
+pub straight-on : (west : ℕ → Bool) (c : ℕ) (h : Heading) → may_turn west c (Some h) h ≡ true
 unfolding may_turn turns_back hop_breaks reverses turn_breaks breaks same opposite
 straight-on west c E = refl
 straight-on west c N = refl

@@ -12,7 +12,7 @@ use Rattle.mesh.specs.Mesh.{mesh, on_mesh}
 use Rattle.mesh.specs.Tests.{first}
 use Rattle.mesh.specs.Nodes.{is_bad, bad}
 use Rattle.mesh.specs.Maps.{allowed, bad_size, bad_length, bad_byte, misplaced_at, misplaced, map_tests}
-use Rattle.mesh.proofs.Tests.{numbered, None, first-none}
+use Rattle.mesh.proofs.Tests.{numbered, NoneHolds, first-none}
 use Rattle.mesh.proofs.Bools.{and_both, and_right, or-none}
 use Rattle.mesh.proofs.Hops.{on-mesh}
 use Rattle.mesh.proofs.Some.{none_passes}
@@ -79,7 +79,7 @@ unfolding map_tests numbered
 map-numbered columns rows map = refl
 
 pub accepted : {columns rows : ℕ} {map : List ℕ} → first (map_tests columns rows map) ≡ 0 → Accepted columns rows map
-unfolding bad None map_tests
+unfolding bad NoneHolds map_tests
 accepted {columns} {rows} {map} h =
     let (no-columns, (no_rows, (no_length, (no_bytes, (no-placed, _))))) = first-none _ (map-numbered columns rows map) h in
     let size = good_length columns rows map no_length in

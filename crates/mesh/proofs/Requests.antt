@@ -10,7 +10,7 @@ use Rattle.mesh.specs.Tests.{first}
 use Rattle.mesh.specs.Requests.{off_mesh, in_block, block_near_in_row, unserved, place_tests, trip_tests, request_tests}
 use Rattle.mesh.proofs.Bools.{or-none}
 use Rattle.mesh.proofs.Hops.{on-mesh}
-use Rattle.mesh.proofs.Tests.{numbered, None, clear-before, first-none}
+use Rattle.mesh.proofs.Tests.{numbered, NoneHolds, clear-before, first-none}
 
 -- the orders of a place of the mesh
 module _ (w : Mesh) (p : Place) (on : off_mesh w p ≡ false) where
@@ -49,7 +49,7 @@ module _ (w : Mesh) (s d : Place) where
   request-numbered n = refl
 
   pub placed : first (place_tests w s d) ≡ 0 → Placed w s d
-  unfolding None place_tests
+  unfolding NoneHolds place_tests
   placed h =
       let (off, (within, _)) = first-none _ place-numbered h in
       let on = or-none (off_mesh w s) (off_mesh w d) off in
@@ -57,7 +57,7 @@ module _ (w : Mesh) (s d : Place) where
       record { source-on = on.0; destination-on = on.1; source_free = free.0; destination-free = free.1 }
 
   pub request : {n : Network} → first (request_tests n w s d) ≡ 0 → Request n w s d
-  unfolding None request_tests trip_tests place_tests
+  unfolding NoneHolds request_tests trip_tests place_tests
   request {n} h =
       let (off, (within, (near, (shut, _)))) = first-none _ (request-numbered n) h in
       record { placed = placed (clear-before (place_tests w s d) _ h); row-clear = near; served = shut }

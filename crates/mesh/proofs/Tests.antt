@@ -1,4 +1,5 @@
 -- Laws of tests in a row: what the first ones refuse stays refused, and where none of them holds those after them count. Assumes nothing.
+use Rattle.std.specs.Prelude.{Result, Ok, Err}
 use mathlib.Core.Path.{◌≡◌, refl, sym, ◌∙◌}
 use mathlib.Core.Bool.{Bool, true, false, cond, ◌&&◌}
 use mathlib.Core.List.{List, [], ◌∷◌, ◌++◌}
@@ -7,8 +8,6 @@ use native.Mathlib.Omega.{arith}
 use borrow.Author.Tests.{leb-true, ltb-true}
 use lib.Dec.{leb, ltb}
 use Rattle.mesh.specs.declared.Refusal.{Refusal}
-use Rattle.mesh.specs.declared.Checked.{Checked}
-use Rattle.mesh.specs.declared.Checked.TheVariants.{Clear, Refused}
 use Rattle.mesh.specs.Tests.{Test, first}
 use Rattle.mesh.specs.Numbers.{number, checked_number}
 use Rattle.mesh.proofs.Bools.{and_both}
@@ -20,9 +19,9 @@ numbered [] = true
 numbered (t ∷ ts) = ltb 0 t.number && numbered ts
 
 -- none of them holds
-unfoldable pub None : List Test → Type 0
-None [] = Unit {0}
-None (t ∷ ts) = (t.holds ≡ false) × None ts
+unfoldable pub NoneHolds : List Test → Type 0
+NoneHolds [] = Unit {0}
+NoneHolds (t ∷ ts) = (t.holds ≡ false) × NoneHolds ts
 
 pub first_some : (k : ℕ) (ts us : List Test) → first ts ≡ suc k → first (ts ++ us) ≡ suc k
 unfolding first
@@ -34,12 +33,12 @@ first_some k (t ∷ ts) us h = by t.holds (first_some k ts us) h
     by true rest h = h
     by false rest h = rest h
 
-pub first-none : (ts : List Test) → numbered ts ≡ true → first ts ≡ 0 → None ts
-unfolding first numbered None
+pub first-none : (ts : List Test) → numbered ts ≡ true → first ts ≡ 0 → NoneHolds ts
+unfolding first numbered NoneHolds
 first-none [] n h = tt
 first-none (t ∷ ts) n h = by t.holds (first-none ts (and_both {a = ltb 0 t.number} n).1) h
   where
-    by : (b : Bool) → (first ts ≡ 0 → None ts) → cond b t.number (first ts) ≡ 0 → (b ≡ false) × None ts
+    by : (b : Bool) → (first ts ≡ 0 → NoneHolds ts) → cond b t.number (first ts) ≡ 0 → (b ≡ false) × NoneHolds ts
     by true rest h = absurd (omega (arith, ltb-true 0 t.number (and_both n).0))
     by false rest h = (refl, rest h)
 
@@ -57,8 +56,8 @@ first-most m (t ∷ ts) n = by t.holds (first-most m ts (and_both {a = leb t.num
     by true rest = leb-true t.number m (and_both n).0
     by false rest = rest
 
-first_next : (ts us : List Test) → None ts → first (ts ++ us) ≡ first us
-unfolding first None
+first_next : (ts us : List Test) → NoneHolds ts → first (ts ++ us) ≡ first us
+unfolding first NoneHolds
 first_next [] us h = refl
 first_next (t ∷ ts) us (e, h) = rw e (first_next ts us h)
 
@@ -83,9 +82,9 @@ module _ (ts us : List Test) where
       by (suc k) e = first_some k ts us e ∙ sym e
 
   -- what a check of the first tests has told
-  module _ {x : Checked} (told : checked_number x ≡ first ts) where
-    pub told-refused : {why : Refusal} → x ≡ Refused why → first (ts ++ us) ≡ number why
+  module _ {A : Type 0} {x : Result A Refusal} (told : checked_number x ≡ first ts) where
+    pub told-refused : {why : Refusal} → x ≡ Err why → first (ts ++ us) ≡ number why
     told-refused {why} e = first_some _ ts us (sym told ∙ rw e (number-some why)) ∙ sym (number-some why)
 
-pub told-clear : (ts : List Test) {x : Checked} → x ≡ Clear → checked_number x ≡ first ts → first ts ≡ 0
+pub told-clear : {A : Type 0} (ts : List Test) {x : Result A Refusal} {a : A} → x ≡ Ok a → checked_number x ≡ first ts → first ts ≡ 0
 told-clear ts e told = sym told ∙ rw e

@@ -1,11 +1,7 @@
 -- The four ways of a hop, their letters and their numbers (document 01, "Mesh and letters"), their codes (document 02, E3). Assumes nothing.
-use Rattle.std.specs.Prelude.{Bool, false, cond, List, [], ◌∷◌, ℕ, zero, suc, ◌+◌, ◌-◌, eqb}
-use Rattle.mesh.specs.declared.Letter.{Letter}
-use Rattle.mesh.specs.declared.Letter.TheVariants.{Hop, Other}
+use Rattle.std.specs.Prelude.{Bool, false, cond, List, [], ◌∷◌, ℕ, zero, suc, ◌+◌, ◌-◌, eqb, Option, Some, None}
 pub use Rattle.mesh.specs.declared.Heading.{Heading}
 pub use Rattle.mesh.specs.declared.Heading.TheVariants.{East as E, North as N, South as S, West as W}
-pub use Rattle.mesh.specs.declared.Last.{Last}
-pub use Rattle.mesh.specs.declared.Last.TheVariants.{None as none, Made as made}
 
 -- the next node that way: east raises the column, north raises the row
 unfoldable pub row_after : Heading → ℕ → ℕ
@@ -43,15 +39,15 @@ unfoldable pub same : Heading → Heading → Bool
 same g h = eqb (letter g) (letter h)
 
 -- the last hop was that way
-unfoldable pub last_is : Last → Heading → Bool
-last_is none h = false
-last_is (made g) h = same g h
+unfoldable pub last_is : Option Heading → Heading → Bool
+last_is None h = false
+last_is (Some g) h = same g h
 
 -- the hop that a byte names
-unfoldable pub named : ℕ → Letter
+unfoldable pub named : ℕ → Option Heading
 named x =
-    cond (eqb x (letter E)) (Hop E)
-    (cond (eqb x (letter N)) (Hop N) (cond (eqb x (letter S)) (Hop S) (cond (eqb x (letter W)) (Hop W) Other)))
+    cond (eqb x (letter E)) (Some E)
+    (cond (eqb x (letter N)) (Some N) (cond (eqb x (letter S)) (Some S) (cond (eqb x (letter W)) (Some W) None)))
 
 -- last hops in numbers: 0 none, 1 E, 2 N, 3 S, 4 W
 abbrev pub heading_number : Heading → ℕ
@@ -60,14 +56,14 @@ heading_number N = 2
 heading_number S = 3
 heading_number W = 4
 
-abbrev pub last_number : Last → ℕ
-last_number none = 0
-last_number (made h) = heading_number h
+abbrev pub last_number : Option Heading → ℕ
+last_number None = 0
+last_number (Some h) = heading_number h
 
 -- the last hop of that number
-unfoldable pub last_of : ℕ → Last
+unfoldable pub last_of : ℕ → Option Heading
 last_of n =
-    cond (eqb n 1) (made E) (cond (eqb n 2) (made N) (cond (eqb n 3) (made S) (cond (eqb n 4) (made W) none)))
+    cond (eqb n 1) (Some E) (cond (eqb n 2) (Some N) (cond (eqb n 3) (Some S) (cond (eqb n 4) (Some W) None)))
 
 -- the code of a direction: 0 E, 1 N, 2 W, 3 S
 abbrev pub code : Heading → ℕ

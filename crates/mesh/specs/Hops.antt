@@ -1,11 +1,11 @@
 -- A hop: the place that it leads to, whether it is lawful, and the packet's record after it (document 01, "Turns", "What demand 3 compares").
 -- Assumes nothing.
-use Rattle.std.specs.Prelude.{Bool, not, ◌&&◌, ℕ, ◌+◌, leb, ltb, eqb}
+use Rattle.std.specs.Prelude.{Bool, not, ◌&&◌, ℕ, ◌+◌, leb, ltb, eqb, Option, Some, None}
 use Rattle.mesh.specs.declared.Network.{Network}
 use Rattle.mesh.specs.declared.Packet.{Packet}
 use Rattle.mesh.specs.declared.Place.{Place}
 use Rattle.mesh.specs.Mesh.{Mesh, place}
-use Rattle.mesh.specs.Headings.{Heading, E, N, S, W, Last, none, made, row_after, column_after}
+use Rattle.mesh.specs.Headings.{Heading, E, N, S, W, row_after, column_after}
 use Rattle.mesh.specs.Turns.{may_turn}
 use Rattle.mesh.specs.Rules.{Trip, trip_on, blocked}
 
@@ -13,15 +13,15 @@ use Rattle.mesh.specs.Rules.{Trip, trip_on, blocked}
 pub record At : Type 0 where
   pub row : ℕ
   pub column : ℕ
-  pub last : Last
+  pub last : Option Heading
 
 -- at the source: no hop is made yet
 abbrev pub fresh : Place → At
-fresh s = record { row = s.row.0; column = s.column.0; last = none }
+fresh s = record { row = s.row.0; column = s.column.0; last = None }
 
 -- the place becomes the next node that way, and that hop is the last hop
 unfoldable pub moved : Heading → At → At
-moved h p = record { row = row_after h p.row; column = column_after h p.column; last = made h }
+moved h p = record { row = row_after h p.row; column = column_after h p.column; last = Some h }
 
 -- a hop that way stays on the mesh
 unfoldable pub stays : ℕ → ℕ → Heading → ℕ → ℕ → Bool

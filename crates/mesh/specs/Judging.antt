@@ -1,9 +1,7 @@
 -- Judge a hand-in (document 01, "The four operations"), on either network (document 02, E6). Assumes nothing.
-use Rattle.std.specs.Prelude.{not, cond, List, [], ◌∷◌, ◌++◌, ℕ, zero, suc}
-use Rattle.mesh.specs.declared.Letter.{Letter}
-use Rattle.mesh.specs.declared.Letter.TheVariants.{Hop, Other}
-use Rattle.mesh.specs.declared.Judged.{Judged}
-use Rattle.mesh.specs.declared.Judged.TheVariants.{Passed, Failed, Refused}
+use Rattle.mesh.specs.declared.NotPassed.{NotPassed}
+use Rattle.std.specs.Prelude.{not, cond, List, [], ◌∷◌, ◌++◌, ℕ, zero, suc, Option, Some, None, Result, Ok, Err}
+use Rattle.mesh.specs.declared.NotPassed.TheVariants.{Refused, Wrong}
 use Rattle.mesh.specs.declared.Network.{Network}
 use Rattle.mesh.specs.declared.Place.{Place}
 use Rattle.mesh.specs.Mesh.{Mesh, mesh}
@@ -30,14 +28,14 @@ hop_tests t p h =
     []
 
 -- what is wrong with a letter: 11 not one of E, N, S, W; 12 to 15 and 17; 0 nothing
-unfoldable pub letter_mistake : Trip → At → Letter → ℕ
-letter_mistake t p Other = 11
-letter_mistake t p (Hop h) = first (hop_tests t p h)
+unfoldable pub letter_mistake : Trip → At → Option Heading → ℕ
+letter_mistake t p None = 11
+letter_mistake t p (Some h) = first (hop_tests t p h)
 
 -- the packet after a letter
-unfoldable pub follow : Letter → At → At
-follow Other p = p
-follow (Hop h) p = moved h p
+unfoldable pub follow : Option Heading → At → At
+follow None p = p
+follow (Some h) p = moved h p
 
 -- passed, with the length; or what is wrong, with the index of that letter
 pub data Verdict : Type 0 where
@@ -56,11 +54,11 @@ judge t p i (x ∷ xs) =
     let rest = judge t (follow (named x) p) (suc i) xs in
     unless (letter_mistake t p (named x)) i rest
 
--- the enum's cases as verdicts; a refusal has index 0
-abbrev pub judged_verdict : Judged → Verdict
-judged_verdict (Passed n) = passed n
-judged_verdict (Failed m i) = failed (mistake_number m) i
-judged_verdict (Refused r) = failed (number r) 0
+-- what it answers as a verdict; a refusal has index 0
+abbrev pub judged_verdict : Result ℕ NotPassed → Verdict
+judged_verdict (Ok n) = passed n
+judged_verdict (Err (Wrong m i)) = failed (mistake_number m) i
+judged_verdict (Err (Refused r)) = failed (number r) 0
 
 -- a verdict in numbers: 0 passed, or the number of what is wrong
 abbrev pub verdict_code : Verdict → ℕ

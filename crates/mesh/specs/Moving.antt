@@ -1,7 +1,6 @@
 -- Move on: a packet is moved by one hop (document 01, "The four operations"), on either network (document 02, E6). Assumes nothing.
-use Rattle.std.specs.Prelude.{◌≡◌, Bool, not, cond, ◌&&◌, List, ◌++◌, ℕ, zero, suc}
-use Rattle.mesh.specs.declared.Moved.{Moved}
-use Rattle.mesh.specs.declared.Moved.TheVariants.{Hop, Arrived, Refused}
+use Rattle.mesh.specs.declared.Refusal.{Refusal}
+use Rattle.std.specs.Prelude.{◌≡◌, Bool, not, cond, ◌&&◌, List, ◌++◌, ℕ, zero, suc, Option, Some, None, Result, Ok, Err}
 use Rattle.mesh.specs.declared.Network.{Network}
 use Rattle.mesh.specs.declared.Packet.{Packet}
 use Rattle.mesh.specs.Mesh.{Mesh, mesh}
@@ -20,11 +19,11 @@ pub data Told : Type 0 where
   there : Told
   refused : ℕ → Told
 
--- the enum's cases as answers
-abbrev pub moved_told : Moved → Told
-moved_told (Hop h) = hopped (letter h)
-moved_told Arrived = there
-moved_told (Refused r) = refused (number r)
+-- what it answers, in these terms
+abbrev pub moved_told : Result (Option Heading) Refusal → Told
+moved_told (Ok (Some h)) = hopped (letter h)
+moved_told (Ok None) = there
+moved_told (Err r) = refused (number r)
 
 -- an answer as one number: the letter, 0 arrived, or the refusal
 abbrev pub told_code : Told → ℕ
@@ -65,6 +64,6 @@ abbrev pub move_record : Network → ℕ → ℕ → List ℕ → Packet → Pac
 move_record network columns rows map p = record_after (move_refusal columns rows map p) network (marked (mesh columns rows map)) p
 
 -- the promise of "Move on" for a packet's record before and after it
-pub record MovesOn (network : Network) (columns rows : ℕ) (map : List ℕ) (p : Packet) (m : Moved) (after : Packet) : Type 0 where
+pub record MovesOn (network : Network) (columns rows : ℕ) (map : List ℕ) (p : Packet) (m : Result (Option Heading) Refusal) (after : Packet) : Type 0 where
   pub answers : moved_told m ≡ move_answer network columns rows map p
   pub leaves : after ≡ move_record network columns rows map p

@@ -1,15 +1,13 @@
 -- The papers' numbers for what is refused and what is wrong, and answers that return a number or refuse. Assumes nothing.
-use Rattle.std.specs.Prelude.{Bool, cond, ◌||◌, List, ◌++◌, ℕ, zero, suc, ◌+◌, eqb, length, drop}
+use Rattle.std.specs.Prelude.{Bool, cond, ◌||◌, List, ◌++◌, ℕ, zero, suc, ◌+◌, eqb, length, drop, Result, Ok, Err}
 use Rattle.mesh.specs.declared.Refusal.{Refusal}
 use Rattle.mesh.specs.declared.Refusal.TheVariants.{Columns, Rows, MapLength, MapByte, FaultPlace, OffMesh, InBlock, BlockNearInRow, Unlawful, Room}
-use Rattle.mesh.specs.declared.Checked.{Checked}
-use Rattle.mesh.specs.declared.Checked.TheVariants.{Clear, Refused}
 use Rattle.mesh.specs.declared.Mistake.{Mistake}
 use Rattle.mesh.specs.declared.Mistake.TheVariants.{NoLetter, LeavesMesh, Reverses, BreaksRule1, BreaksRule2, EntersBlock, NotArrived}
 use Rattle.mesh.specs.declared.Network.{Network}
 use Rattle.mesh.specs.declared.Network.TheVariants.{First, Second}
-use Rattle.mesh.specs.declared.Tested.{Tested}
-use Rattle.mesh.specs.declared.Tested.TheVariants.{Lawful, Wrong}
+use Rattle.mesh.specs.declared.NoNumber.{NoNumber}
+use Rattle.mesh.specs.declared.Packet.{Packet}
 
 -- the number of each refusal
 abbrev pub number : Refusal → ℕ
@@ -25,9 +23,9 @@ number Unlawful = 9
 number Room = 10
 
 -- 0 where none applies
-abbrev pub checked_number : Checked → ℕ
-checked_number Clear = 0
-checked_number (Refused r) = number r
+abbrev pub checked_number : {A : Type 0} → Result A Refusal → ℕ
+checked_number (Ok u) = 0
+checked_number (Err r) = number r
 
 -- the number of each mistake in a hand-in
 abbrev pub mistake_number : Mistake → ℕ
@@ -40,9 +38,9 @@ mistake_number EntersBlock = 15
 mistake_number NotArrived = 16
 
 -- 0 where nothing is wrong with a hop
-abbrev pub tested_number : Tested → ℕ
-tested_number (Lawful p) = 0
-tested_number (Wrong m) = mistake_number m
+abbrev pub tested_number : Result Packet Mistake → ℕ
+tested_number (Ok p) = 0
+tested_number (Err m) = mistake_number m
 
 -- the networks in numbers
 abbrev pub network_number : Network → ℕ
@@ -60,6 +58,10 @@ is_network k = eqb k 1 || eqb k 2
 -- the network of that number
 unfoldable pub network_of : ℕ → Network
 network_of k = cond (eqb k 1) First Second
+
+-- it, or that there is none of that number
+unfoldable pub network_read : ℕ → Result Network NoNumber
+network_read k = cond (is_network k) (Ok (network_of k)) (Err (record { 0 = k }))
 
 -- an answer in the papers' terms: the number of a refusal, or what is returned
 pub data Answer : Type 0 where

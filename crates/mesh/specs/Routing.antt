@@ -1,9 +1,8 @@
 -- Route (document 01, "The four operations"), on either network (document 02, E6). Assumes nothing.
-use Rattle.std.specs.Prelude.{◌≡◌, List, [], ◌∷◌, ◌++◌, ℕ, suc, ltb, length}
+use Rattle.mesh.specs.declared.Refusal.{Refusal}
+use Rattle.std.specs.Prelude.{◌≡◌, List, [], ◌∷◌, ◌++◌, ℕ, suc, ltb, length, Result, Ok, Err}
 use Rattle.mesh.specs.declared.Network.{Network}
 use Rattle.mesh.specs.declared.Place.{Place}
-use Rattle.mesh.specs.declared.Routed.{Routed}
-use Rattle.mesh.specs.declared.Routed.TheVariants.{Hops, Refused}
 use Rattle.mesh.specs.Mesh.{Mesh, mesh}
 use Rattle.mesh.specs.Headings.{Heading, letters}
 use Rattle.mesh.specs.Tests.{Test, ◌gives◌, first}
@@ -16,10 +15,10 @@ use Rattle.mesh.specs.Walk.{walk, bound}
 use Rattle.mesh.specs.Maps.{map_tests}
 use Rattle.mesh.specs.Requests.{request_tests}
 
--- the enum's cases as answers
-abbrev pub routed_answer : Routed → Answer
-routed_answer (Hops n) = returned n
-routed_answer (Refused r) = refused (number r)
+-- what it answers, in the paper's terms
+abbrev pub routed_answer : Result ℕ Refusal → Answer
+routed_answer (Ok n) = returned n
+routed_answer (Err r) = refused (number r)
 
 -- the hops of a request on a marked mesh; that they end at the destination within the bound is shown in theory_walk
 unfoldable pub hops_of : Network → Mesh → Place → Place → List Heading
@@ -48,6 +47,6 @@ route_output network columns rows map s d out =
     written (route_refusal network columns rows map s d out) (letters (hops_of network (marked (mesh columns rows map)) s d)) out
 
 -- the promise of "Route"
-pub record Routes (network : Network) (columns rows : ℕ) (map : List ℕ) (s d : Place) (out : List ℕ) (r : Routed) (after : List ℕ) : Type 0 where
+pub record Routes (network : Network) (columns rows : ℕ) (map : List ℕ) (s d : Place) (out : List ℕ) (r : Result ℕ Refusal) (after : List ℕ) : Type 0 where
   pub answers : routed_answer r ≡ route_answer network columns rows map s d out
   pub writes : after ≡ route_output network columns rows map s d out

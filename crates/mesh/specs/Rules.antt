@@ -1,10 +1,10 @@
 -- The hop rules (document 01, "The hop rules"), over any account of the bad nodes and either parity. The packet is at (r, c), its last hop is l.
 -- Assumes nothing.
-use Rattle.std.specs.Prelude.{Bool, false, not, cond, ◌&&◌, ◌||◌, ℕ, ltb, eqb}
+use Rattle.std.specs.Prelude.{Bool, false, not, cond, ◌&&◌, ◌||◌, ℕ, ltb, eqb, Option, Some, None}
 use Rattle.mesh.specs.declared.Network.{Network}
 use Rattle.mesh.specs.declared.Place.{Place}
 use Rattle.mesh.specs.Mesh.{Mesh}
-use Rattle.mesh.specs.Headings.{Heading, E, N, S, W, Last, none, made}
+use Rattle.mesh.specs.Headings.{Heading, E, N, S, W}
 use Rattle.mesh.specs.Parity.{turns_west}
 use Rattle.mesh.specs.Nodes as nodes
 use Rattle.mesh.specs.Nodes.{ahead}
@@ -54,19 +54,19 @@ unfoldable pub stopped : Trip → ℕ → ℕ → Bool
 stopped t r c = blocked t (side t c) 1 r c || (own t (side t c) c && blocked t (side t c) 2 r c)
 
 -- repeat the last hop if it was N or S, else N
-unfoldable pub again : Last → Heading
-again none = N
-again (made E) = N
-again (made N) = N
-again (made S) = S
-again (made W) = N
+unfoldable pub again : Option Heading → Heading
+again None = N
+again (Some E) = N
+again (Some N) = N
+again (Some S) = S
+again (Some W) = N
 
 -- rule 1: at the destination
 unfoldable pub at_destination : Trip → ℕ → ℕ → Bool
 at_destination t r c = eqb r t.R && eqb c t.C
 
 -- rule 2, r = R: not stopped, hop to the side; stopped, repeat the last hop if it was N or S, else hop N
-unfoldable pub in_row : Trip → ℕ → ℕ → Last → Heading
+unfoldable pub in_row : Trip → ℕ → ℕ → Option Heading → Heading
 in_row t r c l = cond (stopped t r c) (again l) (side t c)
 
 -- rule 3, last hop h leading away from R: stopped, repeat it; else hop to the side
@@ -82,13 +82,13 @@ unfoldable pub nearing : Trip → ℕ → ℕ → Heading → Heading
 nearing t r c h = cond (blocked t h 1 r c) W h
 
 -- rules 3 to 6, by the last hop
-unfoldable pub other_row : Trip → ℕ → ℕ → Last → Heading
-other_row t r c none = across t r c W
-other_row t r c (made E) = across t r c E
-other_row t r c (made N) = cond (ltb r t.R) (nearing t r c N) (leaving t r c N)
-other_row t r c (made S) = cond (ltb r t.R) (leaving t r c S) (nearing t r c S)
-other_row t r c (made W) = across t r c W
+unfoldable pub other_row : Trip → ℕ → ℕ → Option Heading → Heading
+other_row t r c None = across t r c W
+other_row t r c (Some E) = across t r c E
+other_row t r c (Some N) = cond (ltb r t.R) (nearing t r c N) (leaving t r c N)
+other_row t r c (Some S) = cond (ltb r t.R) (leaving t r c S) (nearing t r c S)
+other_row t r c (Some W) = across t r c W
 
 -- the hop by the rules, where rule 1 does not apply
-unfoldable pub hop : Trip → ℕ → ℕ → Last → Heading
+unfoldable pub hop : Trip → ℕ → ℕ → Option Heading → Heading
 hop t r c l = cond (eqb r t.R) (in_row t r c l) (other_row t r c l)

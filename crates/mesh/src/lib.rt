@@ -1,53 +1,52 @@
-// The types of the routing exercise. What they mean, and every rule of document 01, is defined in specs/.
+// The types of the routing exercise, and their numbers. What they mean, and every rule of document 01, is defined in specs/.
 #![tactic(auto)]
 
+ghost use Rattle.std.specs.Prelude.{◌≡◌};
+ghost use Rattle.mesh.specs.declared.NotPassed.TheVariants.{Refused};
+ghost use Rattle.mesh.specs.Headings.{heading_number};
+ghost use Rattle.mesh.specs.Numbers.{number, mistake_number, network_number, network_read};
+
 // A row number and a column number. They are kept apart, so that neither can be handed over for the other.
-#[derive(Clone, Copy)]
+#[derive(Clone, Copy, PartialEq, Eq, PartialOrd, Ord)]
 pub struct Row(pub u32);
 
-#[derive(Clone, Copy)]
+#[derive(Clone, Copy, PartialEq, Eq, PartialOrd, Ord)]
 pub struct Column(pub u32);
 
-#[derive(Clone, Copy)]
+#[derive(Clone, Copy, PartialEq, Eq)]
 pub struct Place {
     pub row: Row,
     pub column: Column,
 }
 
-// The direction of a hop: east raises the column, north raises the row.
-#[derive(Clone, Copy)]
+// The direction of a hop, with its number: east raises the column, north raises the row.
+#[derive(Clone, Copy, PartialEq, Eq)]
 pub enum Heading {
-    East,
+    East = 1,
     North,
     South,
     West,
 }
 
-// Which turns are forbidden in odd columns, and which in even ones: on the second network the two are exchanged.
-#[derive(Clone, Copy)]
+// Which turns are forbidden in odd columns, and which in even ones: on the second network the two are exchanged. With its number.
+#[derive(Clone, Copy, PartialEq, Eq)]
 pub enum Network {
-    First,
+    First = 1,
     Second,
 }
 
-// A packet's last hop.
-#[derive(Clone, Copy)]
-pub enum Last {
-    None,
-    Made(Heading),
-}
-
+// A packet's record. At its source a packet has no last hop.
 #[derive(Clone, Copy)]
 pub struct Packet {
     pub place: Place,
-    pub last: Last,
+    pub last: Option<Heading>,
     pub destination: Place,
 }
 
-// The refusals, in the order of their numbers (specs/Numbers.antt): 1 to 10.
-#[derive(Clone, Copy)]
+// The refusals, with the papers' numbers.
+#[derive(Clone, Copy, PartialEq, Eq)]
 pub enum Refusal {
-    Columns,
+    Columns = 1,
     Rows,
     MapLength,
     MapByte,
@@ -59,80 +58,100 @@ pub enum Refusal {
     Room,
 }
 
-// Whether some of the refusals apply.
-#[derive(Clone, Copy)]
-pub enum Checked {
-    Clear,
-    Refused(Refusal),
-}
-
-// What a byte of a hand-in says.
-#[derive(Clone, Copy)]
-pub enum Letter {
-    Hop(Heading),
-    Other,
-}
-
-// Which rule of document 001 a turn breaks: rule 1 is about EN and NW, rule 2 about ES and SW.
-#[derive(Clone, Copy)]
-pub enum Broken {
-    Neither,
+// A rule of document 001 on turns: rule 1 is about EN and NW, rule 2 about ES and SW.
+#[derive(Clone, Copy, PartialEq, Eq)]
+pub enum TurnRule {
     Rule1,
     Rule2,
 }
 
-// What is wrong with a hand-in, in the order in which it is tested. Their numbers (specs/Numbers.antt) are 11 to 17.
-#[derive(Clone, Copy)]
+// What is wrong with a hand-in, in the order in which it is tested, with the papers' numbers.
+#[derive(Clone, Copy, PartialEq, Eq)]
 pub enum Mistake {
-    NoLetter,
-    LeavesMesh,
-    Reverses,
-    BreaksRule1,
-    BreaksRule2,
-    EntersBlock,
-    NotArrived,
-}
-
-// Whether a hop is lawful, and the packet after it.
-#[derive(Clone, Copy)]
-pub enum Tested {
-    Lawful(Packet),
-    Wrong(Mistake),
+    NoLetter = 11,
+    LeavesMesh = 12,
+    Reverses = 13,
+    BreaksRule1 = 14,
+    BreaksRule2 = 17,
+    EntersBlock = 15,
+    NotArrived = 16,
 }
 
 // What marking the blocks answers: their number, and how many rounds the marking took.
 #[derive(Clone, Copy)]
-pub enum Marked {
-    Blocks(u32, u32),
-    Refused(Refusal),
+pub struct Marked {
+    pub blocks: u32,
+    pub rounds: u32,
 }
 
-// What routing answers.
+// Why a hand-in isn't passed: it is refused; or what is wrong first, and the index of that letter.
 #[derive(Clone, Copy)]
-pub enum Routed {
-    Hops(u32),
+pub enum NotPassed {
     Refused(Refusal),
+    Wrong(Mistake, usize),
 }
 
-// What judging answers: the length, or what is wrong and the index of that letter.
-#[derive(Clone, Copy)]
-pub enum Judged {
-    Passed(usize),
-    Failed(Mistake, usize),
-    Refused(Refusal),
-}
-
-// What moving on answers.
-#[derive(Clone, Copy)]
-pub enum Moved {
-    Hop(Heading),
-    Arrived,
-    Refused(Refusal),
-}
-
-// A packet's record after moving on, with the answer.
+// A packet's record after moving on; and the hop that was made, or none where the packet had arrived, or why it is refused.
 #[derive(Clone, Copy)]
 pub struct Stepped {
     pub packet: Packet,
-    pub moved: Moved,
+    pub moved: Result<Option<Heading>, Refusal>,
+}
+
+// A number that stands for nothing of the kind asked for.
+#[derive(Clone, Copy)]
+pub struct NoNumber(pub u32);
+
+impl From<Heading> for u32 {
+    ghost from_gives = { λ h n. n ≡ heading_number h };
+
+    fn from(h: Heading) -> u32 {
+        h as u32
+    }
+}
+
+impl From<Network> for u32 {
+    ghost from_gives = { λ network n. n ≡ network_number network };
+
+    fn from(network: Network) -> u32 {
+        network as u32
+    }
+}
+
+impl From<Refusal> for u32 {
+    ghost from_gives = { λ why n. n ≡ number why };
+
+    fn from(why: Refusal) -> u32 {
+        why as u32
+    }
+}
+
+impl From<Mistake> for u32 {
+    ghost from_gives = { λ mistake n. n ≡ mistake_number mistake };
+
+    fn from(mistake: Mistake) -> u32 {
+        mistake as u32
+    }
+}
+
+impl TryFrom<u32> for Network {
+    type Error = NoNumber;
+
+    ghost try_from_gives = { λ n r. r ≡ network_read n };
+
+    fn try_from(n: u32) -> Result<Self, NoNumber> {
+        match n {
+            1 => Ok(Network::First),
+            2 => Ok(Network::Second),
+            _ => Err(NoNumber(n)),
+        }
+    }
+}
+
+impl From<Refusal> for NotPassed {
+    ghost from_gives = { λ why e. e ≡ Refused why };
+
+    fn from(why: Refusal) -> NotPassed {
+        NotPassed::Refused(why)
+    }
 }

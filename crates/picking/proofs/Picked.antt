@@ -1,12 +1,11 @@
 -- The cases of the pick: the map's refusals as they were told, or what is done on its marking; and that the part handed back is there.
 -- Assumes nothing.
+use Rattle.std.specs.Prelude.{Result, Ok, Err, ⊤}
 use mathlib.Core.Path.{◌≡◌, sym, ◌∙◌}
 use mathlib.Core.List.{List, []}
 use Prim.Native.Nat.{ℕ, ◌≤◌}
 use native.Mathlib.Omega.{arith}
 use lib.ListN.{length, take, drop, length-append}
-use Rattle.mesh.specs.declared.Checked.{Checked}
-use Rattle.mesh.specs.declared.Checked.TheVariants as checks
 use Rattle.mesh.specs.declared.Network.{Network}
 use Rattle.mesh.specs.declared.Network.TheVariants.{First, Second}
 use Rattle.mesh.specs.declared.Place.{Place}
@@ -20,20 +19,20 @@ use Rattle.mesh.proofs.Lists.{letters-length}
 use Rattle.marking.specs.Marks.{MarksMap}
 use Rattle.routing.proofs.Mapped.{map-refused, marked-routed}
 use Rattle.theory_pick.specs.declared.Picked.{Picked}
-use Rattle.theory_pick.specs.declared.Picked.TheVariants.{Route, Refused}
+-- FIXME use Rattle.theory_pick.specs.declared.Picked.TheVariants.{Route, Refused}
 use Rattle.theory_pick.specs.Picking.{pick_of, better, buffer_of, part, lent_number, PicksRoute, HandsBack}
 use Rattle.theory_pick.proofs.Theorems.{outputs, picked-is-served}
 use Rattle.picking.specs.Marked.{PicksOn}
 
-module _ (columns rows : ℕ) (map : List ℕ) (s d : Place) (first second : List ℕ) {x : Checked} {marks : List ℕ} (m : MarksMap columns rows map x marks) where
-  pub both-refused : {why : Refusal} → x ≡ checks.Refused why → PicksRoute columns rows map s d first second (Refused why) first second
+module _ (columns rows : ℕ) (map : List ℕ) (s d : Place) (first second : List ℕ) {x : Result ⊤ Refusal} {marks : List ℕ} (m : MarksMap columns rows map x marks) where
+  pub both-refused : {why : Refusal} → x ≡ Err why → PicksRoute columns rows map s d first second (Refused why) first second
   unfolding better
   both-refused e =
       let one = map-refused First columns rows map s d first m e in
       let two = map-refused Second columns rows map s d second m e in
       record { picks = rw (← one.answers, ← two.answers); writes = λ network. rw (← one.writes, ← two.writes) at (outputs columns rows map s d first second network) }
 
-  pub marked-picked : (e : x ≡ checks.Clear) {r : Picked} {first' second' : List ℕ} →
+  pub marked-picked : (e : x ≡ Ok tt) {r : Result Picked Refusal} {first' second' : List ℕ} →
       PicksOn (mesh columns rows (take (length map) marks)) s d first second r first' second' → PicksRoute columns rows map s d first second r first' second'
   marked-picked e p =
       let one = marked-routed First columns rows map s d first m e p.routes-first in
@@ -48,7 +47,7 @@ within network columns rows map s d out e =
     let hs = hops_of network (marked (mesh columns rows map)) s d in
     rw e (omega (arith, letters-length hs, length-append (letters hs) (drop (length (letters hs)) out)))
 
-module _ {columns rows : ℕ} {map : List ℕ} {s d : Place} {first second : List ℕ} {r : Picked} {first' second' : List ℕ}
+module _ {columns rows : ℕ} {map : List ℕ} {s d : Place} {first second : List ℕ} {r : Result Picked Refusal} {first' second' : List ℕ}
     (does : PicksRoute columns rows map s d first second r first' second') where
   -- the part that is handed back is there
   module _ {network : Network} {n : ℕ} (told : r ≡ Route network n) where

@@ -1,13 +1,10 @@
 -- The cases of "Route": the map's refusals as they were told, or what is done on its marking. Assumes nothing.
+use Rattle.std.specs.Prelude.{Result, Ok, Err, ⊤}
 use mathlib.Core.Path.{◌≡◌, sym, ◌∙◌}
 use mathlib.Core.List.{List}
 use Prim.Native.Nat.{ℕ}
 use lib.ListN.{length, take}
 use Rattle.mesh.specs.declared.Refusal.{Refusal}
-use Rattle.mesh.specs.declared.Checked.{Checked}
-use Rattle.mesh.specs.declared.Checked.TheVariants as checks
-use Rattle.mesh.specs.declared.Routed.{Routed}
-use Rattle.mesh.specs.declared.Routed.TheVariants.{Refused}
 use Rattle.mesh.specs.declared.Network.{Network}
 use Rattle.mesh.specs.declared.Place.{Place}
 use Rattle.mesh.specs.Mesh.{mesh}
@@ -18,14 +15,14 @@ use Rattle.marking.specs.Marks.{MarksMap}
 use Rattle.marking.proofs.Marks.{marks-refused, marks-next}
 use Rattle.routing.specs.Marked.{RoutesOn}
 
-module _ (network : Network) (columns rows : ℕ) (map : List ℕ) (s d : Place) (out : List ℕ) {x : Checked} {marks : List ℕ} (m : MarksMap columns rows map x marks) where
-  pub map-refused : {why : Refusal} → x ≡ checks.Refused why → Routes network columns rows map s d out (Refused why) out
+module _ (network : Network) (columns rows : ℕ) (map : List ℕ) (s d : Place) (out : List ℕ) {x : Result ⊤ Refusal} {marks : List ℕ} (m : MarksMap columns rows map x marks) where
+  pub map-refused : {why : Refusal} → x ≡ Err why → Routes network columns rows map s d out (Err why) out
   unfolding route_refusal
   map-refused {why} e =
       let told = marks-refused columns rows map m (send_tests network (marked (mesh columns rows map)) s d out) e in
       record { answers = rw told (sym (answer-refused why _)); writes = rw told (sym (written-refused why _ _)) }
 
-  pub marked-routed : (e : x ≡ checks.Clear) {r : Routed} {after : List ℕ} →
+  pub marked-routed : (e : x ≡ Ok tt) {r : Result ℕ Refusal} {after : List ℕ} →
       RoutesOn network (mesh columns rows (take (length map) marks)) s d out r after → Routes network columns rows map s d out r after
   unfolding route_refusal
   marked-routed e r =

@@ -1,4 +1,5 @@
 -- The cases of "Route" on a marking. Assumes nothing.
+use Rattle.std.specs.Prelude.{None, Result, Ok, Err, ⊤}
 use mathlib.Core.Path.{◌≡◌, sym, ap, ◌∙◌}
 use mathlib.Core.Bool.{true, false, cond}
 use mathlib.Core.List.{List, [], ◌∷◌}
@@ -11,10 +12,6 @@ use lib.ListN.{length}
 use Rattle.mesh.specs.declared.Heading.{Heading}
 use Rattle.mesh.specs.declared.Refusal.{Refusal}
 use Rattle.mesh.specs.declared.Refusal.TheVariants.{Room}
-use Rattle.mesh.specs.declared.Checked.{Checked}
-use Rattle.mesh.specs.declared.Checked.TheVariants as checks
-use Rattle.mesh.specs.declared.Routed.TheVariants.{Hops, Refused}
-use Rattle.mesh.specs.declared.Last.TheVariants.{None as none}
 use Rattle.mesh.specs.declared.Network.{Network}
 use Rattle.mesh.specs.declared.Packet.{Packet}
 use Rattle.mesh.specs.declared.Place.{Place}
@@ -40,7 +37,7 @@ use Rattle.walk.specs.Following.{hop_limit, rest, Going}
 use Rattle.routing.specs.Marked.{RoutesOn}
 
 abbrev pub start : Place → Place → Packet
-start s d = record { place = s; last = none; destination = d }
+start s d = record { place = s; last = None; destination = d }
 
 module _ (network : Network) (columns rows : ℕ) (marks : List ℕ) (s d : Place) (m : Marking columns rows marks) (q : Request network (mesh columns rows marks) s d) where
   abbrev w : Mesh
@@ -69,12 +66,12 @@ module _ (network : Network) (w : Mesh) (s d : Place) (out : List ℕ) where
   abbrev room : List Test
   room = ltb (length out) (length (hops_of network w s d)) gives 10 ∷ []
 
-  refused : (why : Refusal) → first (send_tests network w s d out) ≡ number why → RoutesOn network w s d out (Refused why) out
+  refused : (why : Refusal) → first (send_tests network w s d out) ≡ number why → RoutesOn network w s d out (Err why) out
   refused why e =
       record { answers = rw e (sym (answer-refused why _)); writes = rw e (sym (written-refused why _ _)) }
 
-  pub request-refused : {x : Checked} {why : Refusal} → x ≡ checks.Refused why → checked_number x ≡ first (request_tests network w s d) →
-      RoutesOn network w s d out (Refused why) out
+  pub request-refused : {x : Result ⊤ Refusal} {why : Refusal} → x ≡ Err why → checked_number x ≡ first (request_tests network w s d) →
+      RoutesOn network w s d out (Err why) out
   unfolding send_tests
   request-refused {why = why} e told = refused why (told-refused (request_tests network w s d) room told e)
 
@@ -83,18 +80,18 @@ module _ (network : Network) (w : Mesh) (s d : Place) (out : List ℕ) where
     unfolding send_tests first
     only-room = clear_next (request_tests network w s d) room (request-numbered w s d network) clear
 
-    pub room-refused : leb (length hs) (length out) ≡ false → RoutesOn network w s d out (Refused Room) out
+    pub room-refused : leb (length hs) (length out) ≡ false → RoutesOn network w s d out (Err Room) out
     room-refused h =
         let short : length out < length (hops_of network w s d) = rw (← is-hs) (leb-false (length hs) (length out) h) in
         refused Room (only-room ∙ ap (λ b. cond b 10 0) (lt-ltb _ _ short))
 
     pub routed : {n : ℕ} {after : List ℕ} → leb (length hs) (length out) ≡ true → n ≡ 0 + length hs →
-        after ≡ over out 0 (letters hs) → RoutesOn network w s d out (Hops n) after
+        after ≡ over out 0 (letters hs) → RoutesOn network w s d out (Ok n) after
     unfolding answer written
     routed h counts writes =
         let fits : length (hops_of network w s d) ≤ length out = rw (← is-hs) (leb-true (length hs) (length out) h) in
-        let none = only-room ∙ ap (λ b. cond b 10 0) (le-ltb _ _ fits) in
+        let None = only-room ∙ ap (λ b. cond b 10 0) (le-ltb _ _ fits) in
         record {
-          answers = rw (none, counts, is-hs, zero-add);
-          writes = rw (none, writes, is-hs) (over-all out (letters (hops_of network w s d)) (rw (letters-length (hops_of network w s d)) fits));
+          answers = rw (None, counts, is-hs, zero-add);
+          writes = rw (None, writes, is-hs) (over-all out (letters (hops_of network w s d)) (rw (letters-length (hops_of network w s d)) fits));
         }

@@ -1,4 +1,5 @@
 -- The rules as the code goes through them, case by case: what the tests found, and what the rules then say. Assumes nothing.
+use Rattle.std.specs.Prelude.{Option, Some, None}
 use mathlib.Core.Path.{◌≡◌, refl, sym, ap, ◌∙◌}
 use mathlib.Core.Logic.{inl, inr}
 use mathlib.Core.Bool.{Bool, true, false, not, cond, ◌&&◌, ◌||◌}
@@ -7,8 +8,6 @@ use borrow.Author.Tests.{not-true, not-false}
 use lib.Dec.{ltb}
 use Rattle.mesh.specs.declared.Heading.{Heading}
 use Rattle.mesh.specs.declared.Heading.TheVariants.{East as E, North as N, South as S, West as W}
-use Rattle.mesh.specs.declared.Last.{Last}
-use Rattle.mesh.specs.declared.Last.TheVariants.{None as none, Made as made}
 use Rattle.mesh.specs.Headings.{same, last_is}
 use Rattle.mesh.specs.Nodes.{ahead}
 use Rattle.mesh.specs.Rules.{Trip, blocked, side, toward, own, stopped, again, leaving, across, nearing, other_row}
@@ -16,28 +15,28 @@ use Rattle.mesh.proofs.Bools.{true-false, value}
 use Rattle.mesh.proofs.Headings.{same_self, same-heading}
 
 -- at a stop
-pub again-south : {l : Last} (h : Heading) {x : Bool} → l ≡ made h → x ≡ same h S → x ≡ true → S ≡ again l
+pub again-south : {l : Option Heading} (h : Heading) {x : Bool} → l ≡ Some h → x ≡ same h S → x ≡ true → S ≡ again l
 unfolding again same
 again-south E e q v = true-false v q
 again-south N e q v = true-false v q
 again-south S e q v = rw e
 again-south W e q v = true-false v q
 
-pub again-north : {l : Last} (h : Heading) {x : Bool} → l ≡ made h → x ≡ same h S → x ≡ false → N ≡ again l
+pub again-north : {l : Option Heading} (h : Heading) {x : Bool} → l ≡ Some h → x ≡ same h S → x ≡ false → N ≡ again l
 unfolding again same
 again-north E e q f = rw e
 again-north N e q f = rw e
 again-north S e q f = true-false q f
 again-north W e q f = rw e
 
-pub last-self : (h : Heading) → last_is (made h) h ≡ true
+pub last-self : (h : Heading) → last_is (Some h) h ≡ true
 unfolding last_is
 last-self h = same_self h
 
-pub last_made : (l : Last) (h : Heading) → last_is l h ≡ true → l ≡ made h
+pub last_made : (l : Option Heading) (h : Heading) → last_is l h ≡ true → l ≡ Some h
 unfolding last_is
-last_made none h e = true-false e refl
-last_made (made g) h e = ap made (same-heading g h e)
+last_made None h e = true-false e refl
+last_made (Some g) h e = ap Some (same-heading g h e)
 
 module _ (t : Trip) (r c : ℕ) where
   -- stopped
@@ -95,7 +94,7 @@ module _ (t : Trip) (r c : ℕ) where
 
   -- rules 3 and 5: the last hop leads toward R exactly if it is that way
   toward-or-away : (h : Heading) → same h N || same h S ≡ true →
-      other_row t r c (made h) ≡ cond (same h (toward t r)) (nearing t r c h) (leaving t r c h)
+      other_row t r c (Some h) ≡ cond (same h (toward t r)) (nearing t r c h) (leaving t r c h)
   unfolding other_row toward same
   toward-or-away E v = true-false v refl
   toward-or-away N v = elim (value (ltb r t.R)) [ inl e ↦ rw e | inr e ↦ rw e ]
@@ -107,7 +106,7 @@ module _ (t : Trip) (r c : ℕ) where
   toward-upright = elim (value (ltb r t.R)) [ inl e ↦ rw e | inr e ↦ rw e ]
 
   -- rules 4 and 6
-  after-level : (h : Heading) → same h N || same h S ≡ false → other_row t r c (made h) ≡ across t r c h
+  after-level : (h : Heading) → same h N || same h S ≡ false → other_row t r c (Some h) ≡ across t r c h
   unfolding other_row same
   after-level E f = refl
   after-level N f = true-false refl f
@@ -115,7 +114,7 @@ module _ (t : Trip) (r c : ℕ) where
   after-level W f = refl
 
   -- rules 3, 4 and 6, by the last hop, which does not lead toward R
-  module _ (h : Heading) {l : Last} (el : l ≡ made h) {x : Bool} (ex : x ≡ same h N || same h S) {g : Heading} where
+  module _ (h : Heading) {l : Option Heading} (el : l ≡ Some h) {x : Bool} (ex : x ≡ same h N || same h S) {g : Heading} where
     pub round-leaving : x ≡ true → last_is l (toward t r) ≡ false → g ≡ leaving t r c h → g ≡ other_row t r c l
     unfolding last_is
     round-leaving v f q =
@@ -126,7 +125,7 @@ module _ (t : Trip) (r c : ℕ) where
     round-across v q = rw (el, after-level h (sym ex ∙ v)) q
 
   -- rule 5, by the last hop
-  pub near_again : (l : Last) {h g : Heading} → h ≡ toward t r → last_is l (toward t r) ≡ true → g ≡ nearing t r c h → g ≡ other_row t r c l
+  pub near_again : (l : Option Heading) {h g : Heading} → h ≡ toward t r → last_is l (toward t r) ≡ true → g ≡ nearing t r c h → g ≡ other_row t r c l
   near_again l eh n q =
       let h = toward t r in
       rw (last_made l h n, toward-or-away h toward-upright, same_self h) (rw eh at q)

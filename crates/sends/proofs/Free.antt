@@ -1,4 +1,6 @@
 -- Route with the part of an output that is still free: its letters stand from there on. Assumes nothing.
+use Rattle.std.specs.Prelude.{Result, Ok, Err}
+use Rattle.mesh.specs.declared.Refusal.{Refusal}
 use mathlib.Core.Path.{◌≡◌, refl, sym, ap, ◌∙◌}
 use mathlib.Core.List.{List, [], ◌++◌, append-nil}
 use Prim.Native.Nat.{ℕ, zero, suc, ◌+◌, ◌-◌, ◌≤◌}
@@ -7,8 +9,6 @@ use lib.ListN.{length, take, drop, length-append, length-drop, drop_of_length-le
 use lib.Seq.{take_all, drop-drop}
 use Rattle.mesh.specs.declared.Heading.{Heading}
 use Rattle.mesh.specs.declared.Network.{Network}
-use Rattle.mesh.specs.declared.Routed.{Routed}
-use Rattle.mesh.specs.declared.Routed.TheVariants.{Hops, Refused}
 use Rattle.mesh.specs.Mesh.{Mesh}
 use Rattle.mesh.specs.Headings.{letters}
 use Rattle.mesh.specs.Numbers.{answer}
@@ -22,18 +22,18 @@ use Rattle.routing.specs.Marked.{RoutesOn}
 use Rattle.sends.specs.Sends.{wrote, route_call_on, RoutesSend}
 
 -- an answer tells how many letters were written
-wrote-unless : (k : ℕ) (hs : List Heading) (r : Routed) → routed_answer r ≡ answer k (length hs) → wrote r ≡ length (unless_refused k (letters hs))
+wrote-unless : (k : ℕ) (hs : List Heading) (r : Result ℕ Refusal) → routed_answer r ≡ answer k (length hs) → wrote r ≡ length (unless_refused k (letters hs))
 unfolding answer unless_refused
-wrote-unless zero hs (Hops n) e = let m : n ≡ length hs = cc in m ∙ sym (letters-length hs)
-wrote-unless zero hs (Refused why) e = cc
-wrote-unless (suc k) hs (Hops n) e = cc
-wrote-unless (suc k) hs (Refused why) e = refl
+wrote-unless zero hs (Ok n) e = let m : n ≡ length hs = cc in m ∙ sym (letters-length hs)
+wrote-unless zero hs (Err why) e = cc
+wrote-unless (suc k) hs (Ok n) e = cc
+wrote-unless (suc k) hs (Err why) e = refl
 
 module _ (network : Network) (w : Mesh) (x : Send) (out : List ℕ) (at : ℕ) (within : at ≤ length out) where
   rest-size : length (drop at out) ≡ length out - at
   rest-size = length-drop at out
 
-  free-routed : {r : Routed} {mid : List ℕ} → RoutesOn network w x.source x.destination (drop at out) r mid → length mid ≡ length (drop at out) →
+  free-routed : {r : Result ℕ Refusal} {mid : List ℕ} → RoutesOn network w x.source x.destination (drop at out) r mid → length mid ≡ length (drop at out) →
       RoutesSend (route_call_on network w) x out at r (take at out ++ mid)
   unfolding route_call_on call
   free-routed {r} {mid} t size =
@@ -58,7 +58,7 @@ module _ (network : Network) (w : Mesh) (x : Send) (out : List ℕ) (at : ℕ) (
   none_after : drop (length out - at) (drop at out) ≡ []
   none_after = drop_of_length-le (drop at out) {i = length out - at} (omega (arith, rest-size))
 
-  pub send-routed : {r : Routed} {mid : List ℕ} → RoutesOn network w x.source x.destination (take (length out - at) (drop at out)) r mid →
+  pub send-routed : {r : Result ℕ Refusal} {mid : List ℕ} → RoutesOn network w x.source x.destination (take (length out - at) (drop at out)) r mid →
       length mid ≡ length (take (length out - at) (drop at out)) →
       RoutesSend (route_call_on network w) x out at r (take at out ++ (mid ++ drop (length out - at) (drop at out)))
   send-routed {mid = mid} t size = rw (none_after, append-nil mid) (free-routed (rw lent at t) (rw lent at size))

@@ -1,4 +1,5 @@
 -- There is room for every route, so a send's answer is one of refusals 6 to 9, or its letters. Assumes nothing.
+use Rattle.std.specs.Prelude.{Result, Ok, Err}
 use mathlib.Core.Path.{◌≡◌, refl, sym, ap, ◌∙◌}
 use mathlib.Core.Bool.{cond}
 use mathlib.Core.List.{List, [], ◌∷◌, ◌++◌}
@@ -10,8 +11,6 @@ use lib.ListN.{length, take, drop, length-append}
 use lib.Seq.{take_at, length-take-le}
 use Rattle.mesh.specs.declared.Place.{Place}
 use Rattle.mesh.specs.declared.Refusal.{Refusal}
-use Rattle.mesh.specs.declared.Routed.{Routed}
-use Rattle.mesh.specs.declared.Routed.TheVariants.{Hops, Refused}
 use Rattle.mesh.specs.declared.Network.TheVariants.{First}
 use Rattle.mesh.specs.Mesh.{Mesh}
 use Rattle.mesh.specs.Headings.{letters}
@@ -60,11 +59,11 @@ module _ (w : Mesh) (s d : Place) (m : Marking w.columns w.rows w.map) where
     unfolding send_tests
     same-refusal = clear-same (request_tests First w s d) _ (request-numbered w s d First) no-tenth
 
-    module _ {r : Routed} {after : List ℕ} (told : RoutesOn First w s d before r after) where
+    module _ {r : Result ℕ Refusal} {after : List ℕ} (told : RoutesOn First w s d before r after) where
       told-answer : routed_answer r ≡ answer (first (request_tests First w s d)) (length (hops_of First w s d))
       told-answer = told.answers ∙ ap (λ k. answer k (length (hops_of First w s d))) same-refusal
 
-      module _ {n : ℕ} (e : r ≡ Hops n) where
+      module _ {n : ℕ} (e : r ≡ Ok n) where
         told-hops : (first (request_tests First w s d) ≡ 0) × (n ≡ length (hops_of First w s d))
         told-hops = answer-hops _ _ _ (ap routed_answer (sym e) ∙ told-answer)
 
@@ -92,7 +91,7 @@ module _ (w : Mesh) (s d : Place) (m : Marking w.columns w.rows w.map) where
         unfolding send_answer answer_of
         sent p = rw told-hops.0 (rw sent-letters at p)
 
-      pub not-sent : {why : Refusal} {j : ℕ} {out : List ℕ} {at x : ℕ} {out' : List ℕ} → r ≡ Refused why → j ≡ number why →
+      pub not-sent : {why : Refusal} {j : ℕ} {out : List ℕ} {at x : ℕ} {out' : List ℕ} → r ≡ Err why → j ≡ number why →
           Puts out at (line no_word j) x out' → Puts out at (send_answer w s d) x out'
       unfolding send_answer
       not-sent {why} e q p =

@@ -1,4 +1,5 @@
 -- The cases of "Move on". Assumes nothing.
+use Rattle.std.specs.Prelude.{Option, Some, None, Result, Ok, Err, ⊤}
 use mathlib.Core.Path.{◌≡◌, sym, ◌∙◌}
 use mathlib.Core.Logic.{inl, inr}
 use mathlib.Core.Bool.{true, false}
@@ -7,16 +8,9 @@ use Prim.Native.Nat.{ℕ}
 use lib.ListN.{length, take}
 use native.Mathlib.Omega.{arith}
 use Rattle.mesh.specs.declared.Heading.{Heading}
-use Rattle.mesh.specs.declared.Letter.TheVariants.{Hop}
 use Rattle.mesh.specs.declared.Mistake.{Mistake}
-use Rattle.mesh.specs.declared.Tested.{Tested}
-use Rattle.mesh.specs.declared.Tested.TheVariants.{Lawful, Wrong}
 use Rattle.mesh.specs.declared.Refusal.{Refusal}
 use Rattle.mesh.specs.declared.Refusal.TheVariants.{Unlawful}
-use Rattle.mesh.specs.declared.Checked.{Checked}
-use Rattle.mesh.specs.declared.Checked.TheVariants as checks
-use Rattle.mesh.specs.declared.Moved.{Moved}
-use Rattle.mesh.specs.declared.Moved.TheVariants as moves
 use Rattle.mesh.specs.declared.Network.{Network}
 use Rattle.mesh.specs.declared.Packet.{Packet}
 use Rattle.mesh.specs.Mesh.{Mesh, mesh}
@@ -40,20 +34,20 @@ wrong-some : (m : Mistake) → mistake_number m ≡ 0 → ⊥
 wrong-some m e = omega (arith, mistake-some m)
 
 module _ (network : Network) (w : Mesh) (p : Packet) where
-  pub moves-refused : {k : ℕ} (why : Refusal) → k ≡ number why → Moves k network w p (moves.Refused why) p
+  pub moves-refused : {k : ℕ} (why : Refusal) → k ≡ number why → Moves k network w p (Err why) p
   unfolding told record_after
   moves-refused why e = record { answers = rw (e, number-some why); leaves = rw (e, number-some why) }
 
   -- the hop by the rules, tested
-  module _ (away : is_there p ≡ false) {h : Heading} (e : h ≡ hop_at (trip_of network w p) (at p)) {t : Tested} (x : Tests network w p h t) where
-    pub moves-hop : {after : Packet} → t ≡ Lawful after → Moves 0 network w p (moves.Hop h) after
+  module _ (away : is_there p ≡ false) {h : Heading} (e : h ≡ hop_at (trip_of network w p) (at p)) {t : Result Packet Mistake} (x : Tests network w p h t) where
+    pub moves-hop : {after : Packet} → t ≡ Ok after → Moves 0 network w p (FIXMEHOP h) after
     unfolding told record_after may_hop hop_from
     moves-hop q =
         let l : lawful (trip_of network w p) (at p) h ≡ true = (letter-lawful (trip_of network w p) (at p) h).0 (sym x.told ∙ rw q) in
         let l' = rw e at l in
         record { answers = rw (away, e, l'); leaves = rw (x.onward q, away, e, l') }
 
-    pub moves-unlawful : {f : Mistake} → t ≡ Wrong f → Moves 0 network w p (moves.Refused Unlawful) p
+    pub moves-unlawful : {f : Mistake} → t ≡ Err f → Moves 0 network w p (Err Unlawful) p
     unfolding told record_after may_hop hop_from
     moves-unlawful {f} q =
         elim (value (lawful (trip_of network w p) (at p) h)) [
@@ -61,29 +55,29 @@ module _ (network : Network) (w : Mesh) (p : Packet) where
           | inr l ↦ let m = rw e at l in record { answers = rw (away, m); leaves = rw (away, m) }
         ]
 
-  pub trip-refused : {x : Checked} {why : Refusal} → checked_number x ≡ first (trip_tests w p.place p.destination) → x ≡ checks.Refused why →
-      Moves (first (trip_tests w p.place p.destination)) network w p (moves.Refused why) p
+  pub trip-refused : {x : Result ⊤ Refusal} {why : Refusal} → checked_number x ≡ first (trip_tests w p.place p.destination) → x ≡ Err why →
+      Moves (first (trip_tests w p.place p.destination)) network w p (Err why) p
   trip-refused {why = why} told e = moves-refused why (rw e at (sym told))
 
   -- refusals 6 to 8 do not apply
   module _ (clear : first (trip_tests w p.place p.destination) ≡ 0) where
-    pub moves-arrived : is_there p ≡ true → Moves (first (trip_tests w p.place p.destination)) network w p moves.Arrived p
+    pub moves-arrived : is_there p ≡ true → Moves (first (trip_tests w p.place p.destination)) network w p Ok None p
     unfolding told record_after
     moves-arrived e = record { answers = rw (clear, e); leaves = rw (clear, e) }
 
-    pub moves_next : {m : Moved} {after : Packet} → Moves 0 network w p m after → Moves (first (trip_tests w p.place p.destination)) network w p m after
+    pub moves_next : {m : Result (Option Heading) Refusal} {after : Packet} → Moves 0 network w p m after → Moves (first (trip_tests w p.place p.destination)) network w p m after
     moves_next s = rw clear s
 
-module _ (network : Network) (columns rows : ℕ) (map : List ℕ) (p : Packet) {x : Checked} {marks : List ℕ} (s : MarksMap columns rows map x marks) where
-  moves-on : {m : Moved} {after : Packet} → Moves (move_refusal columns rows map p) network (marked (mesh columns rows map)) p m after →
+module _ (network : Network) (columns rows : ℕ) (map : List ℕ) (p : Packet) {x : Result ⊤ Refusal} {marks : List ℕ} (s : MarksMap columns rows map x marks) where
+  moves-on : {m : Result (Option Heading) Refusal} {after : Packet} → Moves (move_refusal columns rows map p) network (marked (mesh columns rows map)) p m after →
       MovesOn network columns rows map p m after
   moves-on a = record { answers = a.answers; leaves = a.leaves }
 
-  pub map-refused : {why : Refusal} → x ≡ checks.Refused why → MovesOn network columns rows map p (moves.Refused why) p
+  pub map-refused : {why : Refusal} → x ≡ Err why → MovesOn network columns rows map p (Err why) p
   unfolding move_refusal
   map-refused {why} e = moves-on (moves-refused network (marked (mesh columns rows map)) p why (marks-refused columns rows map s _ e))
 
-  pub marked-moves : (e : x ≡ checks.Clear) {m : Moved} {after : Packet} →
+  pub marked-moves : (e : x ≡ Ok tt) {m : Result (Option Heading) Refusal} {after : Packet} →
       Moves (first (trip_tests (mesh columns rows (take (length map) marks)) p.place p.destination)) network (mesh columns rows (take (length map) marks)) p m after → MovesOn network columns rows map p m after
   unfolding move_refusal
   marked-moves e a =

@@ -1,4 +1,7 @@
 -- What is shown of a table of sends. Each theorem is proved in the file that its proof cites. Assumes nothing.
+use Rattle.std.specs.Prelude.{Result}
+use Rattle.theory_batch.specs.declared.BatchRefusal.{BatchRefusal}
+use Rattle.mesh.specs.declared.Refusal.{Refusal}
 use mathlib.Core.Path.{◌≡◌, refl, sym, ap, ◌∙◌}
 use mathlib.Core.Logic.{◌≢◌}
 use mathlib.Core.List.{List, [], ◌∷◌, ◌++◌, map}
@@ -7,12 +10,10 @@ use native.Mathlib.Omega.{arith}
 use lib.ListN.{length, get_or, take, drop, length-append}
 use lib.Seq.{take_at, drop_at, get_or-take}
 use Rattle.mesh.specs.declared.Network.{Network}
-use Rattle.mesh.specs.declared.Routed.{Routed}
 use Rattle.mesh.specs.Numbers.{Answer, answer, answer_code, written}
 use Rattle.mesh.specs.Routing.{routed_answer, Routes}
 use Rattle.theory_walk.specs.Claims.{most_hops}
 use Rattle.theory_batch.specs.declared.Send.{Send}
-use Rattle.theory_batch.specs.declared.Batched.{Batched}
 use Rattle.theory_batch.specs.Sends.{sends_of}
 use Rattle.theory_batch.specs.Batch.{call, route_call, calls, answers_of, letters_of, batch, batched_answer, batch_refusal, RoutesBatch}
 use Rattle.theory_batch.specs.Claims.{alone, needed, Gives, told, parts}
@@ -22,7 +23,7 @@ use Rattle.theory_batch.proofs.Parts.{alone-front, calls-parted, at-send}
 
 module _ (network : Network) (columns rows : ℕ) (faults : List ℕ) where
   -- Of a single call of Route, which keeps its promise `Routes`:
-  module _ (x : Send) (free : List ℕ) (r : Routed) (after : List ℕ) (does : Routes network columns rows faults x.source x.destination free r after) where
+  module _ (x : Send) (free : List ℕ) (r : Result ℕ Refusal) (after : List ℕ) (does : Routes network columns rows faults x.source x.destination free r after) where
     -- it does what a table says of it
     pub call-is-route : Gives (route_call network columns rows faults x free) free (routed_answer r) after
     unfolding route_call call
@@ -46,7 +47,7 @@ module _ (network : Network) (columns rows : ℕ) (faults : List ℕ) where
   room-always = needed-most network columns rows faults
 
   -- Of the operation, which keeps its promise:
-  module _ (sends answers out : List ℕ) (r : Batched) (answers' out' : List ℕ) (does : RoutesBatch network columns rows faults sends answers out r answers' out') where
+  module _ (sends answers out : List ℕ) (r : Result ℕ BatchRefusal) (answers' out' : List ℕ) (does : RoutesBatch network columns rows faults sends answers out r answers' out') where
     -- where one of refusals 1 to 5 and 18 applies, the first that does is the answer, and nothing is altered
     pub else-refused : {k : ℕ} → batch_refusal columns rows faults sends answers ≡ suc k →
         (batched_answer r ≡ Answer.refused (suc k)) × (answers' ≡ answers) × (out' ≡ out)
@@ -93,7 +94,7 @@ module _ (network : Network) (columns rows : ℕ) (faults : List ℕ) where
       -- answers and writes for it
       pub each-as-single : needed network columns rows faults (sends_of sends) ≤ length out →
           (before : List Send) (x : Send) (after : List Send) → sends_of sends ≡ before ++ (x ∷ after) →
-          (own : List ℕ) (s : Routed) (own' : List ℕ) → Routes network columns rows faults x.source x.destination own s own' →
+          (own : List ℕ) (s : Result ℕ Refusal) (own' : List ℕ) → Routes network columns rows faults x.source x.destination own s own' →
           routed_answer s ≢ Answer.refused 10 →
           (get_or answers' (length before) 0 ≡ answer_code (routed_answer s)) ×
           (get_or (parts (take (length (sends_of sends)) answers') out') (length before) [] ≡ take (told (answer_code (routed_answer s))) own')

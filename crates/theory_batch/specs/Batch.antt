@@ -1,5 +1,6 @@
 -- A whole table of sends in one call (document 02, E2), on either network (E6): what is answered and written. Assumes nothing.
-use Rattle.std.specs.Prelude.{◌≡◌, ◌||◌, List, [], ◌∷◌, ◌++◌, map, ℕ, zero, suc, ltb, length, drop}
+use Rattle.theory_batch.specs.declared.BatchRefusal.{BatchRefusal}
+use Rattle.std.specs.Prelude.{◌≡◌, ◌||◌, List, [], ◌∷◌, ◌++◌, map, ℕ, zero, suc, ltb, length, drop, Result, Ok, Err}
 use Rattle.mesh.specs.declared.Heading.{Heading}
 use Rattle.mesh.specs.declared.Network.{Network}
 use Rattle.mesh.specs.Mesh.{mesh}
@@ -10,8 +11,7 @@ use Rattle.mesh.specs.Rounds.{marked}
 use Rattle.mesh.specs.Maps.{map_tests}
 use Rattle.mesh.specs.Routing.{hops_of, route_refusal}
 use Rattle.theory_batch.specs.declared.Send.{Send}
-use Rattle.theory_batch.specs.declared.Batched.{Batched}
-use Rattle.theory_batch.specs.declared.Batched.TheVariants.{Letters, Refused, NotSends}
+use Rattle.theory_batch.specs.declared.BatchRefusal.TheVariants.{Map, NotSends}
 use Rattle.theory_batch.specs.Sends.{sends_of, uneven}
 
 -- A single call of Route
@@ -57,11 +57,15 @@ batch network columns rows faults sends out = calls (route_call network columns 
 
 -- The operation
 
--- the enum's cases as answers
-abbrev pub batched_answer : Batched → Answer
-batched_answer (Letters n) = returned n
-batched_answer (Refused r) = refused (number r)
-batched_answer NotSends = refused 18
+-- the number of each refusal
+abbrev pub batch_refusal_number : BatchRefusal → ℕ
+batch_refusal_number (Map r) = number r
+batch_refusal_number NotSends = 18
+
+-- what it answers, in the paper's terms
+abbrev pub batched_answer : Result ℕ BatchRefusal → Answer
+batched_answer (Ok n) = returned n
+batched_answer (Err e) = refused (batch_refusal_number e)
 
 -- refusals 1 to 5; 18 the list isn't whole sends, or the answer list has fewer entries than sends
 unfoldable pub batch_refusal : ℕ → ℕ → List ℕ → List ℕ → List ℕ → ℕ
@@ -84,7 +88,7 @@ batch_output network columns rows faults sends answers out =
     written (batch_refusal columns rows faults sends answers) (letters_of (batch network columns rows faults sends out)) out
 
 -- its promise
-pub record RoutesBatch (network : Network) (columns rows : ℕ) (faults sends answers out : List ℕ) (r : Batched) (answers' out' : List ℕ) : Type 0 where
+pub record RoutesBatch (network : Network) (columns rows : ℕ) (faults sends answers out : List ℕ) (r : Result ℕ BatchRefusal) (answers' out' : List ℕ) : Type 0 where
   pub returns : batched_answer r ≡ batch_answer network columns rows faults sends answers out
   pub enters : answers' ≡ batch_entries network columns rows faults sends answers out
   pub writes : out' ≡ batch_output network columns rows faults sends answers out

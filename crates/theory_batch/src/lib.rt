@@ -1,6 +1,10 @@
 // A table of sends in one call (document 02, E2): its types. What they mean is defined in specs/, what is shown of it is in
-// proofs/Theorems.antt; there is no code.
+// proofs/Theorems.antt.
 #![tactic(auto)]
+
+ghost use Rattle.std.specs.Prelude.{◌≡◌};
+ghost use Rattle.theory_batch.specs.declared.BatchRefusal.TheVariants.{Map};
+ghost use Rattle.theory_batch.specs.Batch.{batch_refusal_number};
 
 use mesh::{Place, Refusal};
 
@@ -10,11 +14,28 @@ pub struct Send {
     pub destination: Place,
 }
 
-// What routing a table answers: the number of letters; a refusal of the map; or 18, the list isn't whole sends or the answer list has fewer
-// entries than sends.
+// Why a table is refused: a refusal of the map; or 18, the list isn't whole sends or the answer list has fewer entries than sends.
 #[derive(Clone, Copy)]
-pub enum Batched {
-    Letters(usize),
-    Refused(Refusal),
+pub enum BatchRefusal {
+    Map(Refusal),
     NotSends,
+}
+
+impl From<Refusal> for BatchRefusal {
+    ghost from_gives = { λ why e. e ≡ Map why };
+
+    fn from(why: Refusal) -> BatchRefusal {
+        BatchRefusal::Map(why)
+    }
+}
+
+impl From<BatchRefusal> for u32 {
+    ghost from_gives = { λ e n. n ≡ batch_refusal_number e };
+
+    fn from(e: BatchRefusal) -> u32 {
+        match e {
+            BatchRefusal::Map(why) => why.into(),
+            BatchRefusal::NotSends => 18,
+        }
+    }
 }

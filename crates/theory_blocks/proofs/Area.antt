@@ -10,9 +10,8 @@ use native.Mathlib.Omega.{arith}
 use Rattle.mesh.specs.Blocks.{Block, reaches}
 use Rattle.mesh.specs.Walk.{detours}
 use Rattle.theory_blocks.specs.Blocks.{Within, Fits, Apart, by-east, by-west, by-north, by-south}
-use Rattle.theory_blocks.specs.Obstacles.{Listed, Pairs, more, Obstacles}
+use Rattle.theory_blocks.specs.Obstacles.{Listed, Pairs, more}
 use Rattle.theory_blocks.proofs.Rings.{reaches-told, reaches-true, reaches-false}
-use Rattle.theory_blocks.proofs.Apart.{pairs-map}
 
 -- b with the row south of it and the two columns west of it
 unfoldable pub grown : Block → Block

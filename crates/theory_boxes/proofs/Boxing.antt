@@ -1,4 +1,6 @@
 -- What stands in the list after a call that keeps its promise, and when a call keeps it. Assumes nothing.
+use Rattle.std.specs.Prelude.{Result, Ok}
+use Rattle.mesh.specs.declared.Refusal.{Refusal}
 use mathlib.Core.Path.{◌≡◌, sym, ◌∙◌}
 use mathlib.Core.List.{List, append_assoc}
 use Prim.Native.Nat.{ℕ, suc, ◌*◌, ◌≤◌, ◌<◌}
@@ -10,14 +12,12 @@ use Rattle.mesh.specs.Tests.{first}
 use Rattle.mesh.specs.Numbers.{answer, written}
 use Rattle.mesh.specs.Maps.{map_tests}
 use Rattle.mesh.proofs.Maps.{Accepted, accepted}
-use Rattle.theory_boxes.specs.declared.Boxed.{Boxed}
-use Rattle.theory_boxes.specs.declared.Boxed.TheVariants.{Boxes}
 use Rattle.theory_boxes.specs.Boxes.{Box, boxes}
 use Rattle.theory_boxes.specs.Boxing.{numbers, room_for, box_list, box_refusal, ListsBoxes}
 use Rattle.theory_boxes.proofs.Filled.{filled, filled-length, filled_zero, filled-rest}
 use Rattle.theory_boxes.proofs.Room.{numbers-length, numbers_fit, list-sized, unrefused, passes}
 
-module _ {columns rows : ℕ} {map list : List ℕ} {r : Boxed} {after : List ℕ} (does : ListsBoxes columns rows map list r after) where
+module _ {columns rows : ℕ} {map list : List ℕ} {r : Result ℕ Refusal} {after : List ℕ} (does : ListsBoxes columns rows map list r after) where
   abbrev bs : List Box
   bs = boxes (mesh columns rows map)
 
@@ -52,7 +52,7 @@ module _ {columns rows : ℕ} {map list : List ℕ} {r : Boxed} {after : List �
 -- Where nothing is refused the promise is kept if that number of boxes is answered and these numbers stand in the list.
 pub lists-boxes : {columns rows : ℕ} {map list after : List ℕ} {n : ℕ} → first (map_tests columns rows map) ≡ 0 → room_for map ≤ length list →
     let bs = boxes (mesh columns rows map) in
-    n ≡ length bs → after ≡ filled (numbers bs) (room_for map) list → ListsBoxes columns rows map list (Boxes n) after
+    n ≡ length bs → after ≡ filled (numbers bs) (room_for map) list → ListsBoxes columns rows map list (Ok n) after
 unfolding answer written box_list
 lists-boxes {columns} {rows} {map} {list} clear room counted e =
     let none = passes columns rows map list clear room in

@@ -11,7 +11,7 @@ use Rattle.mesh.specs.Mesh.{Mesh, mesh}
 use Rattle.mesh.specs.Tests.{◌gives◌, Test, first}
 use Rattle.mesh.specs.Maps.{map_tests}
 use Rattle.mesh.proofs.Bools.{value}
-use Rattle.mesh.proofs.Tests.{numbered, numbered_to, None, first_some, first-none, first-most, clear-before, clear_next}
+use Rattle.mesh.proofs.Tests.{numbered, numbered_to, NoneHolds, first_some, first-none, first-most, clear-before, clear_next}
 use Rattle.mesh.proofs.Maps.{Accepted, map-numbered}
 use Rattle.theory_boxes.specs.Boxes.{Box, fault_boxes, merge_all, boxes}
 use Rattle.theory_boxes.specs.Boxing.{numbers, room_for, box_list, box_refusal}
@@ -52,7 +52,7 @@ module _ (columns rows : ℕ) (map list : List ℕ) where
 
   -- where nothing is refused
   pub unrefused : box_refusal columns rows map list ≡ 0 → (first (map_tests columns rows map) ≡ 0) × (room_for map ≤ length list)
-  unfolding box_refusal numbered None map_tests
+  unfolding box_refusal numbered NoneHolds map_tests
   unrefused h =
       let (_, (_, (_, (_, (_, (enough, _)))))) = first-none _ refl h in
       let fits : room_for map ≤ length list = omega (arith, ltb-false) in

@@ -1,4 +1,6 @@
 -- What is shown of blocks from rectangles (document 02, E10). Each theorem is proved in the file that its proof cites. Assumes nothing.
+use Rattle.std.specs.Prelude.{Result}
+use Rattle.mesh.specs.declared.Refusal.{Refusal}
 use mathlib.Core.Path.{◌≡◌, ap, sym, ◌∙◌}
 use mathlib.Core.Logic.{◌↔◌}
 use mathlib.Core.Bool.{true, false}
@@ -16,7 +18,6 @@ use Rattle.mesh.proofs.Maps.{Accepted}
 use Rattle.theory_blocks.specs.Blocks.{Within}
 use Rattle.theory_blocks.specs.Obstacles.{Listed, Pairs}
 use Rattle.theory_blocks.proofs.Theorems.{blocks-are-few}
-use Rattle.theory_boxes.specs.declared.Boxed.{Boxed}
 use Rattle.theory_boxes.specs.Boxes.{Box, In, fault_boxes, some_close, merge_two, merge_all, earlier, sorted, boxes, box_of}
 use Rattle.theory_boxes.specs.Merging.{Replaced, Merges}
 use Rattle.theory_boxes.specs.Boxing.{numbers, room_for, box_list, box_refusal, ListsBoxes}
@@ -93,7 +94,7 @@ unfolding room_for
 refusal-10 = room-refused
 
 -- The list after a call that keeps its promise.
-module _ {columns rows : ℕ} {map list : List ℕ} {r : Boxed} {after : List ℕ} (does : ListsBoxes columns rows map list r after) where
+module _ {columns rows : ℕ} {map list : List ℕ} {r : Result ℕ Refusal} {after : List ℕ} (does : ListsBoxes columns rows map list r after) where
   -- where a refusal applies, nothing is changed
   pub refusal-leaves : {k : ℕ} → box_refusal columns rows map list ≡ suc k → after ≡ list
   refusal-leaves = refused-leaves does

@@ -1,12 +1,11 @@
 -- Blocks from rectangles (document 02, E10): what is answered and written. Assumes nothing.
-use Rattle.std.specs.Prelude.{◌≡◌, List, [], ◌∷◌, ◌++◌, ℕ, ◌-◌, ◌*◌, ltb, length, replicate}
+use Rattle.mesh.specs.declared.Refusal.{Refusal}
+use Rattle.std.specs.Prelude.{◌≡◌, List, [], ◌∷◌, ◌++◌, ℕ, ◌-◌, ◌*◌, ltb, length, replicate, Result, Ok, Err}
 use Rattle.mesh.specs.Mesh.{Mesh, mesh}
 use Rattle.mesh.specs.Tests.{◌gives◌, first}
 use Rattle.mesh.specs.Numbers.{number, Answer, refused, returned, answer, written}
 use Rattle.mesh.specs.Nodes.{how_many}
 use Rattle.mesh.specs.Maps.{map_tests}
-use Rattle.theory_boxes.specs.declared.Boxed.{Boxed}
-use Rattle.theory_boxes.specs.declared.Boxed.TheVariants.{Boxes, Refused}
 use Rattle.theory_boxes.specs.Boxes.{Box, boxes}
 
 -- the numbers of a list of boxes, four each: lowest row, lowest column, highest row, highest column
@@ -23,15 +22,15 @@ unfoldable pub box_list : Mesh → List ℕ
 box_list w = numbers (boxes w) ++ replicate (room_for w.map - length (numbers (boxes w))) 0
 
 -- the enum's cases as answers
-abbrev pub boxed_answer : Boxed → Answer
-boxed_answer (Boxes n) = returned n
-boxed_answer (Refused r) = refused (number r)
+abbrev pub boxed_answer : Result ℕ Refusal → Answer
+boxed_answer (Ok n) = returned n
+boxed_answer (Err r) = refused (number r)
 
 -- refusals 1 to 5; 10 when the list is shorter than four numbers for each fault
 unfoldable pub box_refusal : ℕ → ℕ → List ℕ → List ℕ → ℕ
 box_refusal columns rows map list = first (map_tests columns rows map ++ (ltb (length list) (room_for map) gives 10 ∷ []))
 
 -- its promise: it returns the number of boxes, and writes them
-pub record ListsBoxes (columns rows : ℕ) (map list : List ℕ) (r : Boxed) (after : List ℕ) : Type 0 where
+pub record ListsBoxes (columns rows : ℕ) (map list : List ℕ) (r : Result ℕ Refusal) (after : List ℕ) : Type 0 where
   pub answers : boxed_answer r ≡ answer (box_refusal columns rows map list) (length (boxes (mesh columns rows map)))
   pub writes : after ≡ written (box_refusal columns rows map list) (box_list (mesh columns rows map)) list

@@ -1,4 +1,5 @@
 -- A channel's ends, its reverse, and what may follow it. Assumes nothing.
+use Rattle.std.specs.Prelude.{Some}
 use mathlib.Core.Path.{◌≡◌}
 use mathlib.Core.Logic.{◌≢◌, inl, inr}
 use mathlib.Core.Bool.{Bool, true, false}
@@ -6,7 +7,6 @@ use Prim.Native.Nat.{ℕ, ◌<◌}
 use borrow.Author.Tests.{not-true}
 use Rattle.mesh.specs.Mesh.{Mesh, on_mesh}
 use Rattle.mesh.specs.declared.Heading.{Heading}
-use Rattle.mesh.specs.declared.Last.TheVariants.{Made as made}
 use Rattle.mesh.specs.Headings.{opposite}
 use Rattle.mesh.specs.Turns.{reverses, turns_back, hop_breaks, turn_breaks, forbidden, may_turn}
 use Rattle.mesh.specs.Hops.{moved, stays}
@@ -53,15 +53,15 @@ module _ (a b : Channel) where
 
 -- Where a channel may follow another, its hop is permitted, and a packet that has come through both is later than after the first.
 module _ (west : ℕ → Bool) (w : Mesh) (a b : Channel) (f : MayFollow west w a b) where
-  turn-permitted : may_turn west (end_column a) (made a.way) b.way ≡ true
+  turn-permitted : may_turn west (end_column a) (Some a.way) b.way ≡ true
   unfolding may_turn turns_back hop_breaks
   turn-permitted =
       let v = not-reverse a b f.row f.column f.no-reverse in
       let t : forbidden (turn_breaks west (end_column a) a.way b.way) ≡ false = rw (← f.column) f.permitted in
       rw (v, t)
 
-  pub follower-permitted : Permitted west b.column (made a.way) b.way
-  follower-permitted = rw f.column (permitted-told west (end_column a) (made a.way) b.way turn-permitted)
+  pub follower-permitted : Permitted west b.column (Some a.way) b.way
+  follower-permitted = rw f.column (permitted-told west (end_column a) (Some a.way) b.way turn-permitted)
 
   came-next : came b ≡ moved b.way (came a)
   unfolding moved end_row end_column
@@ -78,7 +78,7 @@ module _ (west : ℕ → Bool) (w : Mesh) (a b : Channel) (f : MayFollow west w 
 
 -- A channel that starts where another ends may follow it if its hop is permitted.
 pub permitted-follows : (west : ℕ → Bool) (w : Mesh) (a b : Channel) → is_channel w a ≡ true → is_channel w b ≡ true →
-    b.row ≡ end_row a → b.column ≡ end_column a → Permitted west b.column (made a.way) b.way → MayFollow west w a b
+    b.row ≡ end_row a → b.column ≡ end_column a → Permitted west b.column (Some a.way) b.way → MayFollow west w a b
 unfolding may_turn turns_back hop_breaks
 permitted-follows west w a b i j row column p =
     let (v, u) = and_both (permitted-true west b.column p) in

@@ -1,4 +1,5 @@
 -- The order of `Rank`: a permitted hop that stays on the mesh leads on in it. Assumes nothing.
+use Rattle.std.specs.Prelude.{Option, Some, None}
 use mathlib.Core.Path.{◌≡◌}
 use mathlib.Core.Bool.{Bool, true, false, cond}
 use Prim.Native.Nat.{ℕ, zero, suc, ◌+◌, ◌-◌, ◌*◌, ◌≤◌, ◌<◌}
@@ -7,8 +8,6 @@ use native.Mathlib.Omega.{arith}
 use borrow.Author.Tests.{leb-true}
 use Rattle.mesh.specs.declared.Heading.{Heading}
 use Rattle.mesh.specs.declared.Heading.TheVariants.{East as E, North as N, South as S, West as W}
-use Rattle.mesh.specs.declared.Last.{Last}
-use Rattle.mesh.specs.declared.Last.TheVariants.{None as none, Made as made}
 use Rattle.mesh.specs.Headings.{row_after, column_after}
 use Rattle.mesh.specs.Turns.{may_turn}
 use Rattle.mesh.specs.Hops.{At, moved, stays}
@@ -38,23 +37,23 @@ before-east false columns c = omega arith
 
 -- a hop to the h from (r, c) on the mesh, after l
 module _ (west : ℕ → Bool) {columns rows r c : ℕ} (i : r < rows) (j : c < columns) where
-  abbrev Leads : Last → Heading → Type 0
-  Leads l h = Later west columns rows (state r c l) (state (row_after h r) (column_after h c) (made h))
+  abbrev Leads : Option Heading → Heading → Type 0
+  Leads l h = Later west columns rows (state r c l) (state (row_after h r) (column_after h c) (Some h))
 
   -- to a later stage
-  on : {l : Last} {h : Heading} → stage west columns l c < stage west columns (made h) (column_after h c) → Leads l h
+  on : {l : Option Heading} {h : Heading} → stage west columns l c < stage west columns (Some h) (column_after h c) → Leads l h
   on k = record { no-earlier = omega arith; climbs = λ e. absurd (omega arith) }
 
   -- to a stage that is no earlier, and further along the column
-  up : {l : Last} → stage west columns l c ≤ stage west columns (made N) c → climb rows l r ≤ r → Leads l N
+  up : {l : Option Heading} → stage west columns l c ≤ stage west columns (Some N) c → climb rows l r ≤ r → Leads l N
   unfolding row_after column_after climb
   up k m = record { no-earlier = k; climbs = λ e. omega arith }
 
-  down : {l : Last} → stage west columns l c ≤ stage west columns (made S) c → climb rows l r ≤ rows - suc r → 1 ≤ r → Leads l S
+  down : {l : Option Heading} → stage west columns l c ≤ stage west columns (Some S) c → climb rows l r ≤ rows - suc r → 1 ≤ r → Leads l S
   unfolding row_after column_after climb
   down k m s = record { no-earlier = k; climbs = λ e. omega arith }
 
-  leads-on : {l : Last} {h : Heading} → Permitted west c l h → stays columns rows h r c ≡ true → Leads l h
+  leads-on : {l : Option Heading} {h : Heading} → Permitted west c l h → stays columns rows h r c ≡ true → Leads l h
   unfolding stays column_after stage climb
   leads-on {h = E} first s = on (omega arith)
   leads-on {h = N} first s = up (after-west (west c) columns c) (omega arith)
@@ -93,13 +92,13 @@ module _ (f : ℕ → ℕ) (rises : (k : ℕ) → f k ≤ f (suc k)) where
       ]
 
 -- So does the rank.
-climb-low : (rows : ℕ) (l : Last) {r : ℕ} → r < rows → climb rows l r < rows
+climb-low : (rows : ℕ) (l : Option Heading) {r : ℕ} → r < rows → climb rows l r < rows
 unfolding climb
-climb-low rows none i = omega arith
-climb-low rows (made E) i = omega arith
-climb-low rows (made N) i = i
-climb-low rows (made S) i = omega arith
-climb-low rows (made W) i = omega arith
+climb-low rows None i = omega arith
+climb-low rows (Some E) i = omega arith
+climb-low rows (Some N) i = i
+climb-low rows (Some S) i = omega arith
+climb-low rows (Some W) i = omega arith
 
 pub later-rises : (west : ℕ → Bool) (columns rows : ℕ) (p q : At) → p.row < rows → Later west columns rows p q →
     rank west columns rows p < rank west columns rows q

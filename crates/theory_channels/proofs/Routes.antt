@@ -1,4 +1,5 @@
 -- The channels of lawful hops, and of a passed hand-in's route: each may follow the one before it. Assumes nothing.
+use Rattle.std.specs.Prelude.{Some}
 use mathlib.Core.Path.{◌≡◌, refl, sym, ◌∙◌}
 use mathlib.Core.Bool.{true}
 use mathlib.Core.List.{List, [], ◌∷◌}
@@ -6,7 +7,6 @@ use Prim.Native.Nat.{ℕ}
 use Rattle.mesh.specs.declared.Network.{Network}
 use Rattle.mesh.specs.Mesh.{mesh}
 use Rattle.mesh.specs.declared.Heading.{Heading}
-use Rattle.mesh.specs.declared.Last.TheVariants.{Made as made}
 use Rattle.mesh.specs.Headings.{letters}
 use Rattle.mesh.specs.Parity.{turns_west}
 use Rattle.mesh.specs.Rounds.{marked}
@@ -63,7 +63,7 @@ module _ (t : Trip) where
         (lawful-channel (moved g p) h (lawful-on p g o l) m)
         refl
         refl
-        (permitted-told t.west (moved g p).column (made g) h (lawful-turns t (moved g p) h m))
+        (permitted-told t.west (moved g p).column (Some g) h (lawful-turns t (moved g p) h m))
 
     pub hops-linked : (p : At) (hs : List Heading) → OnMesh t p → lawful_hops t p hs ≡ true →
         Linked (MayFollow t.west (mesh t.columns t.rows map)) (channels p (letters hs))

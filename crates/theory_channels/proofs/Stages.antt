@@ -1,4 +1,6 @@
 -- How many hops the stages of `Rank` have room for. Assumes nothing.
+use Rattle.std.specs.Prelude.{Option, Some, None}
+use Rattle.mesh.specs.declared.Heading.{Heading}
 use mathlib.Core.Path.{◌≡◌, refl, ◌∙◌}
 use mathlib.Core.Logic.{inl, inr}
 use mathlib.Core.Bool.{Bool, true, false, not, cond, ◌&&◌, ◌||◌, or-true}
@@ -7,8 +9,6 @@ use native.Mathlib.Omega.{arith}
 use borrow.Author.Tests.{le-leb, lt-leb}
 use lib.Dec.{leb}
 use Rattle.mesh.specs.declared.Heading.TheVariants.{East as E, North as N, South as S, West as W}
-use Rattle.mesh.specs.declared.Last.{Last}
-use Rattle.mesh.specs.declared.Last.TheVariants.{None as none, Made as made}
 use Rattle.mesh.specs.Rules.{Trip}
 use Rattle.mesh.proofs.Bools.{value}
 use Rattle.theory_channels.specs.Rank.{westbound, eastbound, stage, climb}
@@ -87,28 +87,28 @@ module _ (t : Trip) where
   unfolding start
   start-rises k = omega arith
 
-  line-here : (c : ℕ) → c < t.columns → has_line (stage t.west t.columns (made N) c) ≡ true
+  line-here : (c : ℕ) → c < t.columns → has_line (stage t.west t.columns (Some N) c) ≡ true
   unfolding stage
   line-here c i = elim (value (t.west c)) [ inl e ↦ rw e (line-west c i e) | inr e ↦ rw e (line-east c i e) ]
 
   -- a packet is no further along its column than its stage has room
-  pub climb-fits : (l : Last) {r c : ℕ} → r < t.rows → c < t.columns →
+  pub climb-fits : (l : Option Heading) {r c : ℕ} → r < t.rows → c < t.columns →
       start (stage t.west t.columns l c) + climb t.rows l r < start (suc (stage t.west t.columns l c))
   unfolding start climb stage room
-  climb-fits none i j = omega arith
-  climb-fits (made E) i j = omega arith
-  climb-fits (made N) {r} {c} i j = rw (line-here c j) (omega arith)
-  climb-fits (made S) {r} {c} i j = rw (line-here c j) (omega arith)
-  climb-fits (made W) i j = omega arith
+  climb-fits None i j = omega arith
+  climb-fits (Some E) i j = omega arith
+  climb-fits (Some N) {r} {c} i j = rw (line-here c j) (omega arith)
+  climb-fits (Some S) {r} {c} i j = rw (line-here c j) (omega arith)
+  climb-fits (Some W) i j = omega arith
 
   -- there are 2 columns - 1 stages
-  pub stage-low : (l : Last) {c : ℕ} → c < t.columns → stage t.west t.columns l c < t.columns + (t.columns - 1)
+  pub stage-low : (l : Option Heading) {c : ℕ} → c < t.columns → stage t.west t.columns l c < t.columns + (t.columns - 1)
   unfolding stage
-  stage-low none j = omega arith
-  stage-low (made E) j = omega arith
-  stage-low (made N) {c} j = elim (value (t.west c)) [ inl e ↦ rw e (omega arith) | inr e ↦ rw e (omega arith) ]
-  stage-low (made S) {c} j = elim (value (t.west c)) [ inl e ↦ rw e (omega arith) | inr e ↦ rw e (omega arith) ]
-  stage-low (made W) j = omega arith
+  stage-low None j = omega arith
+  stage-low (Some E) j = omega arith
+  stage-low (Some N) {c} j = elim (value (t.west c)) [ inl e ↦ rw e (omega arith) | inr e ↦ rw e (omega arith) ]
+  stage-low (Some S) {c} j = elim (value (t.west c)) [ inl e ↦ rw e (omega arith) | inr e ↦ rw e (omega arith) ]
+  stage-low (Some W) j = omega arith
 
   -- with room for so many hops in all: first those of column 0, then of one column more on either side
   once : (c : ℕ) → 1 ≤ c → c < t.columns → room (westbound t.columns c) + room (eastbound t.columns c) ≡ t.rows - 1

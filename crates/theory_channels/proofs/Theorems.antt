@@ -1,14 +1,13 @@
 -- What is shown of channels, of packets that wait for them, and of how long a lawful walk can be (document 02, E9). Each theorem is proved in the
 -- file that its proof cites. Example has hand-ins that do wait in a ring. Assumes nothing.
+use Rattle.std.specs.Prelude.{Option, Some}
 use mathlib.Core.Path.{◌≡◌}
 use mathlib.Core.Logic.{◌↔◌, ◌≢◌}
 use mathlib.Core.Bool.{Bool, true}
-use mathlib.Core.List.{List, [], ◌∷◌, ◌++◌}
+use mathlib.Core.List.{List, [], ◌∷◌}
 use Prim.Native.Nat.{ℕ, ◌*◌, ◌≤◌, ◌<◌}
 use native.Mathlib.Omega.{arith}
 use lib.ListN.{length, replicate}
-use Rattle.mesh.specs.declared.Last.{Last}
-use Rattle.mesh.specs.declared.Last.TheVariants.{Made as made}
 use Rattle.mesh.specs.declared.Network.{Network}
 use Rattle.mesh.specs.Mesh.{Mesh, mesh}
 use Rattle.mesh.specs.declared.Heading.{Heading}
@@ -37,7 +36,7 @@ use Rattle.theory_channels.proofs.OnRoutes.{next-follows, leads-on}
 use Rattle.theory_channels.proofs.HandIns.{passed-short, passed-few, longest}
 
 -- the hops that are permitted after the last one
-pub permitted-hops : (west : ℕ → Bool) (c : ℕ) (l : Last) (h : Heading) → may_turn west c l h ≡ true ↔ Permitted west c l h
+pub permitted-hops : (west : ℕ → Bool) (c : ℕ) (l : Option Heading) (h : Heading) → may_turn west c l h ≡ true ↔ Permitted west c l h
 permitted-hops west c l h = (permitted-told west c l h, permitted-true west c)
 
 -- Of a mesh of any size.
@@ -52,7 +51,7 @@ module _ (w : Mesh) where
 
   -- a channel may follow the one that ends where it starts exactly if its hop is permitted after the other's
   pub follows-if-permitted : (west : ℕ → Bool) (a b : Channel) → is_channel w a ≡ true → is_channel w b ≡ true →
-      b.row ≡ end_row a → b.column ≡ end_column a → MayFollow west w a b ↔ Permitted west b.column (made a.way) b.way
+      b.row ≡ end_row a → b.column ≡ end_column a → MayFollow west w a b ↔ Permitted west b.column (Some a.way) b.way
   follows-if-permitted west a b i j row column = (follower-permitted west w a b, permitted-follows west w a b i j row column)
 
   -- the rank rises from each channel to every one that may follow it, whichever columns permit NW and SW

@@ -1,9 +1,7 @@
 -- What is shown of channels and of the walks along them. Assumes nothing.
-use Rattle.std.specs.Prelude.{◌≡◌, Bool, true, false, List, ℕ, ◌+◌, ◌-◌, ◌*◌, ◌<◌, length}
+use Rattle.std.specs.Prelude.{◌≡◌, Bool, true, false, List, ℕ, ◌+◌, ◌-◌, ◌*◌, ◌<◌, length, Option, Some, None}
 use Rattle.mesh.specs.declared.Heading.{Heading}
 use Rattle.mesh.specs.declared.Heading.TheVariants.{East as E, North as N, South as S, West as W}
-use Rattle.mesh.specs.declared.Last.{Last}
-use Rattle.mesh.specs.declared.Last.TheVariants.{None as none, Made as made}
 use Rattle.mesh.specs.declared.Network.{Network}
 use Rattle.mesh.specs.Mesh.{Mesh, on_mesh}
 use Rattle.mesh.specs.Rules.{Trip}
@@ -29,17 +27,17 @@ pub record Link (w : Mesh) (r c x y : ℕ) : Type 0 where
   pub only : (a : Channel) → a.row ≡ r → a.column ≡ c → end_row a ≡ x → end_column a ≡ y → a ≡ channel
 
 -- the hops that are permitted in column c after the last one, l; `west` are the columns that permit NW and SW
-pub data Permitted (west : ℕ → Bool) (c : ℕ) : (l : Last) → Heading → Type 0 where
-  first : {h : Heading} → Permitted west c none h
-  straight : {h : Heading} → Permitted west c (made h) h
-  WN : Permitted west c (made W) N
-  WS : Permitted west c (made W) S
-  NE : Permitted west c (made N) E
-  SE : Permitted west c (made S) E
-  NW : west c ≡ true → Permitted west c (made N) W
-  SW : west c ≡ true → Permitted west c (made S) W
-  EN : west c ≡ false → Permitted west c (made E) N
-  ES : west c ≡ false → Permitted west c (made E) S
+pub data Permitted (west : ℕ → Bool) (c : ℕ) : (l : Option Heading) → Heading → Type 0 where
+  first : {h : Heading} → Permitted west c None h
+  straight : {h : Heading} → Permitted west c (Some h) h
+  WN : Permitted west c (Some W) N
+  WS : Permitted west c (Some W) S
+  NE : Permitted west c (Some N) E
+  SE : Permitted west c (Some S) E
+  NW : west c ≡ true → Permitted west c (Some N) W
+  SW : west c ≡ true → Permitted west c (Some S) W
+  EN : west c ≡ false → Permitted west c (Some E) N
+  ES : west c ≡ false → Permitted west c (Some E) S
 
 -- a packet on the mesh
 pub record OnMesh (t : Trip) (p : At) : Type 0 where

@@ -4,10 +4,9 @@
 -- middle; one bound east goes on from the middle to the last column again. In a column that permits NW and SW the hops N and S belong to packets
 -- bound west, in any other to packets bound east. Then no permitted hop leads to an earlier stage, and one that stays at its stage climbs: it
 -- leads further along the column (`hop-is-later`). Assumes nothing.
-use Rattle.std.specs.Prelude.{◌≡◌, Bool, cond, ℕ, suc, ◌+◌, ◌-◌, ◌*◌, ◌≤◌, ◌<◌}
+use Rattle.mesh.specs.declared.Heading.{Heading}
+use Rattle.std.specs.Prelude.{◌≡◌, Bool, cond, ℕ, suc, ◌+◌, ◌-◌, ◌*◌, ◌≤◌, ◌<◌, Option, Some, None}
 use Rattle.mesh.specs.declared.Heading.TheVariants.{East as E, North as N, South as S, West as W}
-use Rattle.mesh.specs.declared.Last.{Last}
-use Rattle.mesh.specs.declared.Last.TheVariants.{None as none, Made as made}
 use Rattle.mesh.specs.Mesh.{Mesh}
 use Rattle.mesh.specs.Hops.{At}
 use Rattle.theory_channels.specs.Channels.{Channel, end_row, end_column}
@@ -20,20 +19,20 @@ abbrev pub eastbound : ℕ → ℕ → ℕ
 eastbound columns c = columns - 1 + c
 
 -- the stage of a packet in column c, by its last hop; a fresh one counts as bound west
-unfoldable pub stage : (ℕ → Bool) → ℕ → Last → ℕ → ℕ
-stage west columns none c = westbound columns c
-stage west columns (made E) c = eastbound columns c
-stage west columns (made N) c = cond (west c) (westbound columns c) (eastbound columns c)
-stage west columns (made S) c = cond (west c) (westbound columns c) (eastbound columns c)
-stage west columns (made W) c = westbound columns c
+unfoldable pub stage : (ℕ → Bool) → ℕ → Option Heading → ℕ → ℕ
+stage west columns None c = westbound columns c
+stage west columns (Some E) c = eastbound columns c
+stage west columns (Some N) c = cond (west c) (westbound columns c) (eastbound columns c)
+stage west columns (Some S) c = cond (west c) (westbound columns c) (eastbound columns c)
+stage west columns (Some W) c = westbound columns c
 
 -- how far along its column a packet in row r is, going N or S
-unfoldable pub climb : ℕ → Last → ℕ → ℕ
-climb rows none r = 0
-climb rows (made E) r = 0
-climb rows (made N) r = r
-climb rows (made S) r = rows - suc r
-climb rows (made W) r = 0
+unfoldable pub climb : ℕ → Option Heading → ℕ → ℕ
+climb rows None r = 0
+climb rows (Some E) r = 0
+climb rows (Some N) r = r
+climb rows (Some S) r = rows - suc r
+climb rows (Some W) r = 0
 
 -- both of a packet at p
 abbrev pub stage_of : (ℕ → Bool) → ℕ → At → ℕ
@@ -53,7 +52,7 @@ rank west columns rows p = stage_of west columns p * rows + climb_of rows p
 
 -- a packet that has come through a channel, and its rank
 abbrev pub came : Channel → At
-came a = record { row = end_row a; column = end_column a; last = made a.way }
+came a = record { row = end_row a; column = end_column a; last = Some a.way }
 
 abbrev pub channel_rank : (ℕ → Bool) → Mesh → Channel → ℕ
 channel_rank west w a = rank west w.columns w.rows (came a)

@@ -1,8 +1,7 @@
 -- Packets that hold channels of their routes and wait for further ones (document 02, E9). Assumes nothing.
-use Rattle.std.specs.Prelude.{◌≡◌, ℕ}
+use Rattle.mesh.specs.declared.Heading.{Heading}
+use Rattle.std.specs.Prelude.{◌≡◌, ℕ, Option, Some, None}
 use mathlib.Core.List.{List, [], ◌∷◌, ◌++◌, Memᴰ}
-use Rattle.mesh.specs.declared.Letter.{Letter}
-use Rattle.mesh.specs.declared.Letter.TheVariants.{Hop, Other}
 use Rattle.mesh.specs.declared.Network.{Network}
 use Rattle.mesh.specs.declared.Place.{Place}
 use Rattle.mesh.specs.Headings.{named}
@@ -25,9 +24,9 @@ abbrev pub Passed : Network → ℕ → ℕ → List ℕ → HandIn → Type 0
 Passed network columns rows map h = (n : ℕ) × (verdict network columns rows map h ≡ passed n)
 
 -- the channel of a letter's hop from p, before further ones; a byte that is no letter has none
-unfoldable pub through : Letter → At → List Channel → List Channel
-through Other p more = more
-through (Hop h) p more = record { row = p.row; column = p.column; way = h } ∷ more
+unfoldable pub through : Option Heading → At → List Channel → List Channel
+through None p more = more
+through (Some h) p more = record { row = p.row; column = p.column; way = h } ∷ more
 
 -- the channels that letters lead through from p, in order
 unfoldable pub channels : At → List ℕ → List Channel

@@ -11,7 +11,7 @@ use Rattle.mesh.specs.Rounds.{marked}
 use Rattle.mesh.specs.Blocks.{blocks}
 use Rattle.mesh.specs.Maps.{map_tests}
 use Rattle.mesh.specs.Requests.{in_block, block_near_in_row, unserved, place_tests, trip_tests, request_tests}
-use Rattle.mesh.proofs.Tests.{None, first-none, clear-before, clear_next}
+use Rattle.mesh.proofs.Tests.{NoneHolds, first-none, clear-before, clear_next}
 use Rattle.mesh.proofs.Maps.{map-numbered, accepted}
 use Rattle.mesh.proofs.Requests.{on_row, on-column, Placed, trip-numbered, placed, request}
 use Rattle.theory_blocks.proofs.Theorems.{obstacles}
@@ -42,7 +42,7 @@ module _ (columns rows : ℕ) (map : List ℕ) (s d : Place) where
       (clear, sym (clear_next (map_tests columns rows map) others (map-numbered columns rows map) clear) ∙ h)
 
   pub passed-8 : refusal1to8 columns rows map s d ≡ 0 → Passed columns rows map s d
-  unfolding refusal1to8 trip_tests place_tests None
+  unfolding refusal1to8 trip_tests place_tests NoneHolds
   passed-8 h =
       let (clear, none) = map-passes (trip_tests w s d) h in
       let (_, (_, (row-clear, _))) = first-none (trip_tests w s d) (trip-numbered w s d) none in

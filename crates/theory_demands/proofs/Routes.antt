@@ -1,4 +1,6 @@
 -- What Route answers and writes, by whether one of refusals 1 to 9 applies to the request. Assumes nothing.
+use Rattle.std.specs.Prelude.{Result}
+use Rattle.mesh.specs.declared.Refusal.{Refusal}
 use mathlib.Core.Path.{◌≡◌, refl, sym, ◌∙◌}
 use mathlib.Core.Bool.{cond}
 use mathlib.Core.List.{List, ◌++◌, append_assoc}
@@ -11,7 +13,6 @@ use lib.ListN.{length, drop}
 use Rattle.mesh.specs.declared.Heading.{Heading}
 use Rattle.mesh.specs.declared.Network.{Network}
 use Rattle.mesh.specs.declared.Place.{Place}
-use Rattle.mesh.specs.declared.Routed.{Routed}
 use Rattle.mesh.specs.Mesh.{mesh}
 use Rattle.mesh.specs.Headings.{letters}
 use Rattle.mesh.specs.Numbers.{Answer, returned, answer, written}
@@ -47,7 +48,7 @@ module _ {network : Network} {columns rows : ℕ} {map : List ℕ} {s d : Place}
   pub room-none : length hs ≤ length out → route_refusal network columns rows map s d out ≡ 0
   room-none h = only-room ∙ rw (le-ltb _ _ h)
 
-  module _ {r : Routed} {after : List ℕ} (does : Routes network columns rows map s d out r after) where
+  module _ {r : Result ℕ Refusal} {after : List ℕ} (does : Routes network columns rows map s d out r after) where
     answers-ten : length out < length hs → routed_answer r ≡ Answer.refused 10
     unfolding answer
     answers-ten h = does.answers ∙ rw (short-ten h)
@@ -83,7 +84,7 @@ module _ (network : Network) (columns rows : ℕ) (map : List ℕ) (s d : Place)
   unfolding request_refusal route_refusal send_tests
   refused-before = rw (← append_assoc) (first_some k (map_tests columns rows map ++ request_tests network (marked (mesh columns rows map)) s d) _ e)
 
-  pub refused-given : {r : Routed} {after : List ℕ} → Routes network columns rows map s d out r after →
+  pub refused-given : {r : Result ℕ Refusal} {after : List ℕ} → Routes network columns rows map s d out r after →
       (routed_answer r ≡ Answer.refused (suc k)) × (after ≡ out)
   unfolding answer written
   refused-given does = (does.answers ∙ rw refused-before, does.writes ∙ rw refused-before)

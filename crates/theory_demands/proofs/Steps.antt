@@ -1,4 +1,6 @@
 -- One call of Move on. Assumes nothing.
+use Rattle.std.specs.Prelude.{Option, Result}
+use Rattle.mesh.specs.declared.Refusal.{Refusal}
 use mathlib.Core.Path.{◌≡◌, refl, sym, ◌∙◌}
 use mathlib.Core.Bool.{Bool, true, false, not, cond, ◌&&◌}
 use mathlib.Core.List.{List}
@@ -6,7 +8,6 @@ use Prim.Native.Nat.{ℕ, zero, suc}
 use native.Mathlib.Omega.{arith}
 use borrow.Author.Tests.{lt-ltb}
 use Rattle.mesh.specs.declared.Heading.{Heading}
-use Rattle.mesh.specs.declared.Moved.{Moved}
 use Rattle.mesh.specs.declared.Packet.{Packet}
 use Rattle.mesh.specs.declared.Network.{Network}
 use Rattle.mesh.specs.declared.Place.{Place}
@@ -47,7 +48,7 @@ still zero network w p e = still-by (is_there p) (may_hop network w p) _ _ p e
 still (suc n) network w p e = refl
 
 -- a refused call alters nothing, whatever it was given
-pub refused-still : {network : Network} {columns rows : ℕ} {map : List ℕ} {p after : Packet} {m : Moved} {k : ℕ} →
+pub refused-still : {network : Network} {columns rows : ℕ} {map : List ℕ} {p after : Packet} {m : Result (Option Heading) Refusal} {k : ℕ} →
     MovesOn network columns rows map p m after → moved_told m ≡ Told.refused k → after ≡ p
 refused-still {network} {columns} {rows} {map} {p} keeps e =
     keeps.leaves ∙ still (move_refusal columns rows map p) network (marked (mesh columns rows map)) p (sym keeps.answers ∙ e)
@@ -62,7 +63,7 @@ module _ (network : Network) {columns rows : ℕ} {map : List ℕ} {s d : Place}
       clear_next (map_tests columns rows map) _ (map-numbered columns rows map) passed.map-passes ∙
       rw (lt-ltb _ _ free.row, lt-ltb _ _ free.column, passed.placed.destination-on, free.free, passed.placed.destination-free, passed.row-clear)
 
-  module _ {m : Moved} {after : Packet} (keeps : MovesOn network columns rows map (packet_at a d) m after) where
+  module _ {m : Result (Option Heading) Refusal} {after : Packet} (keeps : MovesOn network columns rows map (packet_at a d) m after) where
     pub hops-answer : {h : Heading} → Hops (trip_to network columns rows map d) a h → moved_told m ≡ hopped (letter h)
     unfolding told is_there may_hop hop_from arrived at_destination
     hops-answer g = keeps.answers ∙ rw (none-applies, g.not-arrived, ← g.by-rule, g.lawfully)

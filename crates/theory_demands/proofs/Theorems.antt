@@ -1,4 +1,6 @@
 -- Demand 3 of the hand-over sheet, and what goes with it. Assumes nothing.
+use Rattle.std.specs.Prelude.{Result}
+use Rattle.mesh.specs.declared.Refusal.{Refusal}
 use mathlib.Core.Path.{◌≡◌, refl}
 use mathlib.Core.Logic.{◌↔◌}
 use mathlib.Core.Bool.{true}
@@ -8,7 +10,6 @@ use native.Mathlib.Omega.{arith}
 use lib.ListN.{length}
 use Rattle.mesh.specs.declared.Network.{Network}
 use Rattle.mesh.specs.declared.Place.{Place}
-use Rattle.mesh.specs.declared.Routed.{Routed}
 use Rattle.mesh.specs.Mesh.{mesh}
 use Rattle.mesh.specs.Headings.{letters}
 use Rattle.mesh.specs.Hops.{fresh}
@@ -54,13 +55,13 @@ module _ (network : Network) (columns rows : ℕ) (map : List ℕ) (s d : Place)
       walks.routes-are-short network (accepted clear.passed.map-passes) s d (request (marked (mesh columns rows map)) s d clear.none)
 
   -- so with room for 4,034 letters Route serves every such request
-  pub room-for-every-route : request_refusal network columns rows map s d ≡ 0 → (out : List ℕ) (r : Routed) (after : List ℕ) → most_hops ≤ length out →
+  pub room-for-every-route : request_refusal network columns rows map s d ≡ 0 → (out : List ℕ) (r : Result ℕ Refusal) (after : List ℕ) → most_hops ≤ length out →
       Routes network columns rows map s d out r after → routed_answer r ≡ returned (length (hops network columns rows map s d))
   room-for-every-route none out r after room does =
       ((demand-3 none).routed out r after does).reports (omega (arith, routes-are-short none))
 
   -- the premise is about Route: where one of refusals 1 to 9 applies, Route answers the first that does and changes no byte, whatever its output holds
-  pub else-refused : {k : ℕ} → request_refusal network columns rows map s d ≡ suc k → (out : List ℕ) (r : Routed) (after : List ℕ) →
+  pub else-refused : {k : ℕ} → request_refusal network columns rows map s d ≡ suc k → (out : List ℕ) (r : Result ℕ Refusal) (after : List ℕ) →
       Routes network columns rows map s d out r after → (routed_answer r ≡ Answer.refused (suc k)) × (after ≡ out)
   else-refused e out r after does = refused-given network columns rows map s d out e does
 

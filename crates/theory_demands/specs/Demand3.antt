@@ -1,12 +1,10 @@
 -- Demand 3 of the hand-over sheet, over the definitions that the promises of Route (`Routes`) and of Move on (`MovesOn`) cite. Assumes nothing.
-use Rattle.std.specs.Prelude.{◌≡◌, ◌↔◌, Bool, true, false, cond, ◌&&◌, List, [], ◌∷◌, ◌++◌, ℕ, zero, suc, ◌+◌, ◌≤◌, ◌<◌, eqb, length, get_or, drop}
+use Rattle.mesh.specs.declared.Refusal.{Refusal}
+use Rattle.std.specs.Prelude.{◌≡◌, ◌↔◌, Bool, true, false, cond, ◌&&◌, List, [], ◌∷◌, ◌++◌, ℕ, zero, suc, ◌+◌, ◌≤◌, ◌<◌, eqb, length, get_or, drop, Option, None, Result}
 use Rattle.mesh.specs.declared.Heading.{Heading}
-use Rattle.mesh.specs.declared.Last.TheVariants as lasts
 use Rattle.mesh.specs.declared.Network.{Network}
 use Rattle.mesh.specs.declared.Place.{Place}
 use Rattle.mesh.specs.declared.Packet.{Packet}
-use Rattle.mesh.specs.declared.Routed.{Routed}
-use Rattle.mesh.specs.declared.Moved.{Moved}
 use Rattle.mesh.specs.Mesh.{mesh}
 use Rattle.mesh.specs.Headings.{letter, letters}
 use Rattle.mesh.specs.Tests.{first}
@@ -35,7 +33,7 @@ pub record Call : Type 0 where
   pub columns : ℕ
   pub rows : ℕ
   pub map : List ℕ
-  pub answer : Moved
+  pub answer : Result (Option Heading) Refusal
   pub after : Packet
 
 -- called on the record p, it kept Move on's promise
@@ -85,7 +83,7 @@ module _ (network : Network) (columns rows : ℕ) (map : List ℕ) where
 
     -- its fresh packet
     abbrev pub fresh_packet : Packet
-    fresh_packet = record { place = s; last = lasts.None; destination = d }
+    fresh_packet = record { place = s; last = None; destination = d }
 
     -- the record that shows the place and last hop reached by k of its hops, and the same destination
     abbrev pub record_at : ℕ → Packet
@@ -93,7 +91,7 @@ module _ (network : Network) (columns rows : ℕ) (map : List ℕ) where
 
     -- What Route does with an output: it answers 10 exactly if there is room for fewer, and then changes no byte;
     -- else it writes exactly their letters in order, leaves the bytes after them, and reports exactly their number.
-    pub record RouteGiven (out : List ℕ) (r : Routed) (after : List ℕ) : Type 0 where
+    pub record RouteGiven (out : List ℕ) (r : Result ℕ Refusal) (after : List ℕ) : Type 0 where
       pub ten : routed_answer r ≡ Answer.refused 10 ↔ length out < length hops
       pub unchanged : length out < length hops → after ≡ out
       pub reports : length hops ≤ length out → routed_answer r ≡ returned (length hops)
@@ -129,7 +127,7 @@ module _ (network : Network) (columns rows : ℕ) (map : List ℕ) where
       pub bounded : length hops ≤
           distance s.row.0 d.row.0 + distance s.column.0 d.column.0 + 2 + detours (blocks (marked (mesh columns rows map)))
       -- Route, whatever its output holds
-      pub routed : (out : List ℕ) (r : Routed) (after : List ℕ) → Routes network columns rows map s d out r after → RouteGiven out r after
+      pub routed : (out : List ℕ) (r : Result ℕ Refusal) (after : List ℕ) → Routes network columns rows map s d out r after → RouteGiven out r after
       -- Move on: every list of calls on the fresh packet
       pub moves : (calls : List Call) → Calls fresh_packet calls → Goes 0 calls
       -- so those with the same mesh, map and network return the letters from the first on, one each, then only "arrived"

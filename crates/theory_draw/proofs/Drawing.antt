@@ -11,8 +11,8 @@ use Rattle.mesh.specs.Tests.{first}
 use Rattle.mesh.specs.Numbers.{returned, answer, written}
 use Rattle.mesh.specs.Nodes.{how_many}
 use Rattle.mesh.specs.Maps.{bad_size, map_tests}
-use Rattle.mesh.proofs.Tests.{numbered, None, first-none}
-use Rattle.theory_draw.specs.declared.Drawn.TheVariants.{Faults}
+use Rattle.mesh.proofs.Tests.{numbered, NoneHolds, first-none}
+use Rattle.std.specs.Prelude.{Ok}
 use Rattle.theory_draw.specs.Draws.{drawn_places}
 use Rattle.theory_draw.specs.Drawing.{drawn_map, drawn_faults, bad_draws, draw_refusal, DrawsMap}
 use Rattle.theory_draw.specs.Claims.{Passes}
@@ -27,7 +27,7 @@ pub record Unrefused (columns rows n : ℕ) (out : List ℕ) : Type 0 where
   pub room : columns * rows ≤ length out
 
 pub unrefused : (columns rows n : ℕ) (out : List ℕ) → draw_refusal columns rows n out ≡ 0 → Unrefused columns rows n out
-unfolding draw_refusal numbered None
+unfolding draw_refusal numbered NoneHolds
 unrefused columns rows n out h =
     let (no-columns, (no_rows, (no-draws, (no_room, _)))) = first-none _ refl h in
     record { good-columns = no-columns; good-rows = no_rows; good-draws = no-draws; room = ltb-false _ _ no_room }
@@ -65,7 +65,7 @@ returned-none zero n x e = (refl, cc)
 returned-none (suc k) n x e = let z : ◌≡◌ {A = ℕ} 0 1 = cc in absurd (omega arith)
 
 -- a call that is answered by a number of faults
-module _ {columns rows seed n : ℕ} {out : List ℕ} {x : ℕ} {after : List ℕ} (d : DrawsMap columns rows seed n out (Faults x) after) where
+module _ {columns rows seed n : ℕ} {out : List ℕ} {x : ℕ} {after : List ℕ} (d : DrawsMap columns rows seed n out (Ok x) after) where
   none-refused : (draw_refusal columns rows n out ≡ 0) × (x ≡ drawn_faults columns rows seed n)
   none-refused = returned-none _ _ x d.answers
 

@@ -1,4 +1,6 @@
 -- What is shown of a map drawn by number (document 02, E8). Assumes nothing.
+use Rattle.std.specs.Prelude.{Result}
+use Rattle.theory_draw.specs.declared.DrawRefusal.{DrawRefusal}
 use mathlib.Core.Path.{◌≡◌}
 use mathlib.Core.Logic.{◌⊎◌, ◌↔◌}
 use mathlib.Core.Bool.{true, false}
@@ -13,8 +15,7 @@ use Rattle.mesh.specs.Nodes.{how_many}
 use Rattle.mesh.specs.Maps.{bad_size, map_tests}
 use Rattle.mesh.proofs.Tests.{clear_next}
 use Rattle.mesh.proofs.Maps.{map-numbered}
-use Rattle.theory_draw.specs.declared.Drawn.{Drawn}
-use Rattle.theory_draw.specs.declared.Drawn.TheVariants.{Faults}
+use Rattle.std.specs.Prelude.{Ok}
 use Rattle.theory_draw.specs.Draws.{state_after, place_count, place_numbered, picked, index_of}
 use Rattle.theory_draw.specs.Drawing.{drawn_map, drawn_faults, drawn_answer, bad_draws, draw_refusal, DrawsMap}
 use Rattle.theory_draw.specs.Claims.{Allowed, OneNumber, Undrawable, Passes}
@@ -78,13 +79,13 @@ pub faults-are-few : (columns rows seed n : ℕ) → drawn_faults columns rows s
 faults-are-few = faults-few
 
 -- Of any call that keeps its promise: where a refusal applies, the first that does is the answer, and no byte is altered.
-pub else-refused : {columns rows seed n : ℕ} {out : List ℕ} {r : Drawn} {after : List ℕ} → DrawsMap columns rows seed n out r after →
+pub else-refused : {columns rows seed n : ℕ} {out : List ℕ} {r : Result ℕ DrawRefusal} {after : List ℕ} → DrawsMap columns rows seed n out r after →
     {k : ℕ} → draw_refusal columns rows n out ≡ suc k → (drawn_answer r ≡ refused (suc k)) × (after ≡ out)
 unfolding answer written
 else-refused does e = (rw e at does.answers, rw e at does.writes)
 
 -- Of one that answers a number of faults, and the first columns × rows bytes of its output:
-module _ {columns rows seed n : ℕ} {out : List ℕ} {x : ℕ} {after : List ℕ} (d : DrawsMap columns rows seed n out (Faults x) after) where
+module _ {columns rows seed n : ℕ} {out : List ℕ} {x : ℕ} {after : List ℕ} (d : DrawsMap columns rows seed n out (Ok x) after) where
   -- every operation takes them as its map
   pub output-is-taken : (others : List Test) → first (map_tests columns rows (take (columns * rows) after) ++ others) ≡ first others
   output-is-taken others = clear_next _ others (map-numbered columns rows _) (front-passes d)

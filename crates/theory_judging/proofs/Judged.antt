@@ -1,4 +1,5 @@
 -- A whole hand-in, letter by letter. Assumes nothing.
+use Rattle.std.specs.Prelude.{Some}
 use mathlib.Core.Path.{◌≡◌, refl, sym, ◌∙◌}
 use mathlib.Core.Logic.{◌↔◌, ◌≢◌, inl, inr}
 use mathlib.Core.Bool.{true, false}
@@ -9,7 +10,6 @@ use native.Mathlib.Omega.{arith}
 use lib.ListN.{length, take}
 use lib.Seq.{take-nil}
 use Rattle.mesh.specs.declared.Heading.{Heading}
-use Rattle.mesh.specs.declared.Letter.TheVariants.{Hop}
 use Rattle.mesh.specs.declared.Network.{Network}
 use Rattle.mesh.specs.declared.Place.{Place}
 use Rattle.mesh.specs.Mesh.{mesh}
@@ -159,7 +159,7 @@ module _ (t : Trip) where
         | mistaken n s v ↦ rw s (judge-mistaken p i n x xs s)
       ]
     where
-      not-lawful : (h : Heading) → NotLawful t p x → named x ≡ Hop h → lawful t p h ≡ false
+      not-lawful : (h : Heading) → NotLawful t p x → named x ≡ Some h → lawful t p h ≡ false
       not-lawful h (no-letter o) e = cc
       not-lawful h (unlawful g o l) e = let s : g ≡ h = cc in rw (← s) l
 

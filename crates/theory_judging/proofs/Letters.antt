@@ -1,13 +1,13 @@
 -- A single letter of a hand-in: what is wrong with it. Assumes nothing.
+use Rattle.std.specs.Prelude.{Option, Some, None}
+use Rattle.mesh.specs.declared.TurnRule.{TurnRule}
 use mathlib.Core.Path.{◌≡◌, refl}
 use mathlib.Core.Logic.{◌↔◌, ◌≢◌, inl, inr}
 use mathlib.Core.Bool.{Bool, true, false, not, cond, ◌&&◌}
 use Prim.Native.Nat.{ℕ, suc, pred}
 use native.Mathlib.Omega.{arith}
-use Rattle.mesh.specs.declared.Broken.{Broken}
-use Rattle.mesh.specs.declared.Broken.TheVariants.{Neither, Rule1, Rule2}
+use Rattle.mesh.specs.declared.TurnRule.TheVariants.{Rule1, Rule2}
 use Rattle.mesh.specs.declared.Heading.{Heading}
-use Rattle.mesh.specs.declared.Letter.TheVariants.{Hop}
 use Rattle.mesh.specs.Headings.{letter, named}
 use Rattle.mesh.specs.Tests.{first}
 use Rattle.mesh.specs.Turns.{hop_breaks, is_rule1, is_rule2, forbidden, turns_back, may_turn}
@@ -19,26 +19,26 @@ use Rattle.mesh.proofs.Headings.{letter-named, is-hop, is-other, name}
 use Rattle.theory_judging.specs.Claims.{NotLawful, no-letter, unlawful}
 
 -- the tests of a hop in their order, against the order of the definition of lawful
-unfoldable pub mistake : Bool → Bool → Broken → Bool → ℕ
+unfoldable pub mistake : Bool → Bool → Option TurnRule → Bool → ℕ
 mistake s v x b = cond (not s) 12 (cond v 13 (cond (is_rule1 x) 14 (cond (is_rule2 x) 17 (cond b 15 0))))
 
 neither : (k : ℕ) → suc k ≡ 0 ↔ false ≡ true
 neither k = (λ e. absurd (omega arith), λ e. true-false e refl)
 
-mistake-none : (s v : Bool) (x : Broken) (b : Bool) → mistake s v x b ≡ 0 ↔ s && (not b && (not v && not (forbidden x))) ≡ true
+mistake-none : (s v : Bool) (x : Option TurnRule) (b : Bool) → mistake s v x b ≡ 0 ↔ s && (not b && (not v && not (forbidden x))) ≡ true
 unfolding mistake
 mistake-none false v x b = neither 11
 mistake-none true true x true = neither 12
 mistake-none true true x false = neither 12
-mistake-none true false Rule1 true = neither 13
-mistake-none true false Rule1 false = neither 13
-mistake-none true false Rule2 true = neither 16
-mistake-none true false Rule2 false = neither 16
-mistake-none true false Neither true = neither 14
-mistake-none true false Neither false = (λ e. refl, λ e. refl)
+mistake-none true false (Some Rule1) true = neither 13
+mistake-none true false (Some Rule1) false = neither 13
+mistake-none true false (Some Rule2) true = neither 16
+mistake-none true false (Some Rule2) false = neither 16
+mistake-none true false None true = neither 14
+mistake-none true false None false = (λ e. refl, λ e. refl)
 
 module _ (t : Trip) (p : At) where
-  pub no-mistake-lawful : (h : Heading) → letter_mistake t p (Hop h) ≡ 0 ↔ lawful t p h ≡ true
+  pub no-mistake-lawful : (h : Heading) → letter_mistake t p (Some h) ≡ 0 ↔ lawful t p h ≡ true
   unfolding letter_mistake hop_tests first lawful may_turn mistake
   no-mistake-lawful h =
       mistake-none
@@ -61,8 +61,8 @@ module _ (t : Trip) (p : At) where
             elim (value (lawful t p h)) [
               | inl l ↦ good h e l
               | inr l ↦
-                  let n : named x ≡ Hop h = rw e (letter-named h) in
-                  let some : letter_mistake t p (Hop h) ≢ 0 = λ z. true-false ((no-mistake-lawful h).0 z) l in
-                  mistaken (pred (letter_mistake t p (Hop h))) (rw n (omega arith)) (unlawful h n l)
+                  let n : named x ≡ Some h = rw e (letter-named h) in
+                  let some : letter_mistake t p (Some h) ≢ 0 = λ z. true-false ((no-mistake-lawful h).0 z) l in
+                  mistaken (pred (letter_mistake t p (Some h))) (rw n (omega arith)) (unlawful h n l)
             ]
       ]

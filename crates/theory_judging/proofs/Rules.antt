@@ -1,4 +1,6 @@
 -- Which rule a hop breaks, and that judging tells it. Assumes nothing.
+use Rattle.std.specs.Prelude.{Option, Some, None}
+use Rattle.mesh.specs.declared.TurnRule.{TurnRule}
 use mathlib.Core.Path.{◌≡◌, refl, sym, ◌∙◌}
 use mathlib.Core.Logic.{◌↔◌, ◌≢◌, inl, inr}
 use mathlib.Core.Bool.{Bool, true, false, cond}
@@ -7,13 +9,9 @@ use Prim.Native.Nat.{ℕ, ◌<◌}
 use native.Mathlib.Omega.{arith}
 use lib.Dec.{eqb}
 use lib.ListN.{length, get_or}
-use Rattle.mesh.specs.declared.Broken.{Broken}
-use Rattle.mesh.specs.declared.Broken.TheVariants.{Neither, Rule1, Rule2}
+use Rattle.mesh.specs.declared.TurnRule.TheVariants.{Rule1, Rule2}
 use Rattle.mesh.specs.declared.Heading.{Heading}
 use Rattle.mesh.specs.declared.Heading.TheVariants.{East as E, North as N, South as S, West as W}
-use Rattle.mesh.specs.declared.Last.{Last}
-use Rattle.mesh.specs.declared.Last.TheVariants.{None as none, Made as made}
-use Rattle.mesh.specs.declared.Letter.TheVariants.{Hop}
 use Rattle.mesh.specs.declared.Mistake.TheVariants.{BreaksRule1, BreaksRule2}
 use Rattle.mesh.specs.Headings.{opposite, same, named}
 use Rattle.mesh.specs.Tests.{first}
@@ -28,27 +26,27 @@ use Rattle.theory_judging.specs.Claims.{unlawful, WentWrong, at-letter, at-end, 
 use Rattle.theory_judging.proofs.Letters.{mistake, no-mistake-lawful}
 
 -- the number by which a broken rule is told, and the rule that a number tells of
-abbrev pub told : Broken → ℕ
-told Neither = 0
-told Rule1 = mistake_number BreaksRule1
-told Rule2 = mistake_number BreaksRule2
+abbrev pub told : Option TurnRule → ℕ
+told None = 0
+told (Some Rule1) = mistake_number BreaksRule1
+told (Some Rule2) = mistake_number BreaksRule2
 
-abbrev rule_of : ℕ → Broken
-rule_of k = cond (eqb k (told Rule1)) Rule1 (cond (eqb k (told Rule2)) Rule2 Neither)
+abbrev rule_of : ℕ → Option TurnRule
+rule_of k = cond (eqb k (told (Some Rule1))) (Some Rule1) (cond (eqb k (told (Some Rule2))) (Some Rule2) None)
 
-told-rule : (r : Broken) → rule_of (told r) ≡ r
-told-rule Neither = refl
-told-rule Rule1 = refl
-told-rule Rule2 = refl
+told-rule : (r : Option TurnRule) → rule_of (told r) ≡ r
+told-rule None = refl
+told-rule (Some Rule1) = refl
+told-rule (Some Rule2) = refl
 
-tells-some : (r : Broken) {k : ℕ} → 0 < told r → told r ≡ k → rule_of k ≢ Neither
+tells-some : (r : Option TurnRule) {k : ℕ} → 0 < told r → told r ≡ k → rule_of k ≢ None
 tells-some r some e z =
-    let none : rule_of (told r) ≡ Neither = rw e z in
-    let zero : told r ≡ 0 = rw (sym (told-rule r) ∙ none) in
+    let None : rule_of (told r) ≡ None = rw e z in
+    let zero : told r ≡ 0 = rw (sym (told-rule r) ∙ None) in
     absurd (omega (arith, some))
 
 module _ (west : ℕ → Bool) (c : ℕ) where
-  pub rule-is : {r : Broken} {l : Last} {h : Heading} → BreaksRule west c r l h → hop_breaks west c l h ≡ r
+  pub rule-is : {r : Option TurnRule} {l : Option Heading} {h : Heading} → BreaksRule west c r l h → hop_breaks west c l h ≡ r
   unfolding hop_breaks turn_breaks breaks same
   rule-is (EN e) = rw e
   rule-is (NW e) = rw e
@@ -56,67 +54,67 @@ module _ (west : ℕ → Bool) (c : ℕ) where
   rule-is (SW e) = rw e
 
   -- a hop breaks no rule, or makes a turn of the one it breaks
-  data Turned (l : Last) (h : Heading) : Type 0 where
-    keeps : hop_breaks west c l h ≡ Neither → Turned l h
-    broke : (r : Broken) → BreaksRule west c r l h → Turned l h
+  data Turned (l : Option Heading) (h : Heading) : Type 0 where
+    keeps : hop_breaks west c l h ≡ None → Turned l h
+    broke : (r : Option TurnRule) → BreaksRule west c r l h → Turned l h
 
-  turned : (l : Last) (h : Heading) → Turned l h
+  turned : (l : Option Heading) (h : Heading) → Turned l h
   unfolding hop_breaks turn_breaks breaks same
-  turned none h = keeps refl
-  turned (made E) E = keeps refl
-  turned (made E) N = elim (value (west c)) [ inl e ↦ broke Rule1 (EN e) | inr e ↦ keeps (rw e) ]
-  turned (made E) S = elim (value (west c)) [ inl e ↦ broke Rule2 (ES e) | inr e ↦ keeps (rw e) ]
-  turned (made E) W = keeps refl
-  turned (made N) E = keeps refl
-  turned (made N) N = keeps refl
-  turned (made N) S = keeps refl
-  turned (made N) W = elim (value (west c)) [ inl e ↦ keeps (rw e) | inr e ↦ broke Rule1 (NW e) ]
-  turned (made S) E = keeps refl
-  turned (made S) N = keeps refl
-  turned (made S) S = keeps refl
-  turned (made S) W = elim (value (west c)) [ inl e ↦ keeps (rw e) | inr e ↦ broke Rule2 (SW e) ]
-  turned (made W) h = keeps refl
+  turned None h = keeps refl
+  turned (Some E) E = keeps refl
+  turned (Some E) N = elim (value (west c)) [ inl e ↦ broke (Some Rule1) (EN e) | inr e ↦ keeps (rw e) ]
+  turned (Some E) S = elim (value (west c)) [ inl e ↦ broke (Some Rule2) (ES e) | inr e ↦ keeps (rw e) ]
+  turned (Some E) W = keeps refl
+  turned (Some N) E = keeps refl
+  turned (Some N) N = keeps refl
+  turned (Some N) S = keeps refl
+  turned (Some N) W = elim (value (west c)) [ inl e ↦ keeps (rw e) | inr e ↦ broke (Some Rule1) (NW e) ]
+  turned (Some S) E = keeps refl
+  turned (Some S) N = keeps refl
+  turned (Some S) S = keeps refl
+  turned (Some S) W = elim (value (west c)) [ inl e ↦ keeps (rw e) | inr e ↦ broke (Some Rule2) (SW e) ]
+  turned (Some W) h = keeps refl
 
-  rule-turn : {r : Broken} {l : Last} {h : Heading} → 0 < told r → hop_breaks west c l h ≡ r → BreaksRule west c r l h
+  rule-turn : {r : Option TurnRule} {l : Option Heading} {h : Heading} → 0 < told r → hop_breaks west c l h ≡ r → BreaksRule west c r l h
   rule-turn {r} {l} {h} some e =
       elim (turned l h) [
         | keeps k ↦ let n : told r ≡ 0 = rw (sym e ∙ k) in absurd (omega (arith, some))
         | broke s b ↦ let same : s ≡ r = sym (rule-is b) ∙ e in rw (← same) b
       ]
 
-  pub broken-is-rule : (r : Broken) → 0 < told r → (l : Last) (h : Heading) → hop_breaks west c l h ≡ r ↔ BreaksRule west c r l h
+  pub broken-is-rule : (r : Option TurnRule) → 0 < told r → (l : Option Heading) (h : Heading) → hop_breaks west c l h ≡ r ↔ BreaksRule west c r l h
   broken-is-rule r some l h = (rule-turn some, rule-is)
 
   -- a hop that breaks a rule is no reversal
-  rule-ahead : {r : Broken} {l : Last} {h : Heading} → BreaksRule west c r l h → turns_back l h ≡ false
+  rule-ahead : {r : Option TurnRule} {l : Option Heading} {h : Heading} → BreaksRule west c r l h → turns_back l h ≡ false
   unfolding turns_back reverses opposite same
   rule-ahead (EN e) = refl
   rule-ahead (NW e) = refl
   rule-ahead (ES e) = refl
   rule-ahead (SW e) = refl
 
-  pub reversal-keeps : (l : Last) (h : Heading) → turns_back l h ≡ true → hop_breaks west c l h ≡ Neither
+  pub reversal-keeps : (l : Option Heading) (h : Heading) → turns_back l h ≡ true → hop_breaks west c l h ≡ None
   reversal-keeps l h e = elim (turned l h) [ keeps k ↦ k | broke r b ↦ true-false e (rule-ahead b) ]
 
 -- the tests tell of a rule exactly if the hop stays on the mesh and breaks it
-tells : (s v : Bool) (x : Broken) (b : Bool) → rule_of (mistake s v x b) ≢ Neither → (s ≡ true) × (x ≡ rule_of (mistake s v x b))
+tells : (s v : Bool) (x : Option TurnRule) (b : Bool) → rule_of (mistake s v x b) ≢ None → (s ≡ true) × (x ≡ rule_of (mistake s v x b))
 unfolding mistake
 tells false v x b some = absurd (some refl)
 tells true true x b some = absurd (some refl)
-tells true false Neither true some = absurd (some refl)
-tells true false Neither false some = absurd (some refl)
-tells true false Rule1 b some = (refl, refl)
-tells true false Rule2 b some = (refl, refl)
+tells true false None true some = absurd (some refl)
+tells true false None false some = absurd (some refl)
+tells true false (Some Rule1) b some = (refl, refl)
+tells true false (Some Rule2) b some = (refl, refl)
 
-told-by : (r : Broken) (b : Bool) → 0 < told r → mistake true false r b ≡ told r
+told-by : (r : Option TurnRule) (b : Bool) → 0 < told r → mistake true false r b ≡ told r
 unfolding mistake
-told-by Neither b some = absurd (omega arith)
-told-by Rule1 b some = refl
-told-by Rule2 b some = refl
+told-by None b some = absurd (omega arith)
+told-by (Some Rule1) b some = refl
+told-by (Some Rule2) b some = refl
 
-module _ (t : Trip) (q : At) (xs : List ℕ) (n : ℕ) (r : Broken) (some : 0 < told r) where
-  tests-tell : (h : Heading) → rule_of (letter_mistake t q (Hop h)) ≢ Neither →
-      (stays t.columns t.rows h q.row q.column ≡ true) × (hop_breaks t.west q.column q.last h ≡ rule_of (letter_mistake t q (Hop h)))
+module _ (t : Trip) (q : At) (xs : List ℕ) (n : ℕ) (r : Option TurnRule) (some : 0 < told r) where
+  tests-tell : (h : Heading) → rule_of (letter_mistake t q (Some h)) ≢ None →
+      (stays t.columns t.rows h q.row q.column ≡ true) × (hop_breaks t.west q.column q.last h ≡ rule_of (letter_mistake t q (Some h)))
   unfolding letter_mistake hop_tests first mistake
   tests-tell h =
       tells
@@ -126,14 +124,14 @@ module _ (t : Trip) (q : At) (xs : List ℕ) (n : ℕ) (r : Broken) (some : 0 < 
       (blocked t h 1 q.row q.column)
 
   letter-told : (h : Heading) → stays t.columns t.rows h q.row q.column ≡ true →
-      BreaksRule t.west q.column r q.last h → letter_mistake t q (Hop h) ≡ told r
+      BreaksRule t.west q.column r q.last h → letter_mistake t q (Some h) ≡ told r
   unfolding letter_mistake hop_tests first mistake
   letter-told h s b =
       rw (s, rule-ahead _ _ b, rule-is _ _ b) (told-by r (blocked t h 1 q.row q.column) some)
 
-  at-hop : (h : Heading) → n < length xs → named (get_or xs n 0) ≡ Hop h → told r ≡ letter_mistake t q (named (get_or xs n 0)) → LetterBreaks t q xs n r
+  at-hop : (h : Heading) → n < length xs → named (get_or xs n 0) ≡ Some h → told r ≡ letter_mistake t q (named (get_or xs n 0)) → LetterBreaks t q xs n r
   at-hop h l s e =
-      let m : told r ≡ letter_mistake t q (Hop h) = rw (← s) e in
+      let m : told r ≡ letter_mistake t q (Some h) = rw (← s) e in
       let (on, b) = tests-tell h (tells-some r some m) in
       record { there = l; hop = h; spelled = s; on-mesh = on; broken = rule-turn _ _ some (b ∙ rw (← m) (told-rule r)) }
 
@@ -149,11 +147,11 @@ module _ (t : Trip) (q : At) (xs : List ℕ) (n : ℕ) (r : Broken) (some : 0 < 
   rule-wrong : LetterBreaks t q xs n r → WentWrong t q xs n (told r)
   rule-wrong f =
       let h = f.hop in
-      let e : letter_mistake t q (Hop h) ≡ told r = letter-told h f.on-mesh f.broken in
+      let e : letter_mistake t q (Some h) ≡ told r = letter-told h f.on-mesh f.broken in
       let no : lawful t q h ≡ false = not-lawful h e in
       at-letter f.there (unlawful h f.spelled no) (rw f.spelled (sym e))
     where
-      not-lawful : (h : Heading) → letter_mistake t q (Hop h) ≡ told r → lawful t q h ≡ false
+      not-lawful : (h : Heading) → letter_mistake t q (Some h) ≡ told r → lawful t q h ≡ false
       not-lawful h e =
           elim (value (lawful t q h)) [ inl l ↦ absurd (omega (arith, some, e, (no-mistake-lawful t q h).1 l)) | inr l ↦ l ]
 
@@ -163,5 +161,5 @@ module _ (t : Trip) (p : At) (i : ℕ) (xs : List ℕ) (j : ℕ) where
   instead f u =
       record { hops = u.hops; begun = u.begun; spelled = u.spelled; hops-lawful = u.hops-lawful; wrong = f _ _ u.wrong }
 
-  pub failed-is-rule : (r : Broken) → 0 < told r → FailedAt t p i xs (told r) j ↔ BrokeRuleAt t p i xs r j
+  pub failed-is-rule : (r : Option TurnRule) → 0 < told r → FailedAt t p i xs (told r) j ↔ BrokeRuleAt t p i xs r j
   failed-is-rule r some = (instead (λ q n. wrong-rule t q xs n r some), instead (λ q n. rule-wrong t q xs n r some))

@@ -1,4 +1,6 @@
 -- What is shown of judging a hand-in. Each theorem is proved in the file that its proof cites. Assumes nothing.
+use Rattle.std.specs.Prelude.{Option, Some, None}
+use Rattle.mesh.specs.declared.TurnRule.{TurnRule}
 use mathlib.Core.Path.{◌≡◌, sym, ◌∙◌}
 use mathlib.Core.Logic.Iff
 use mathlib.Core.Logic.{◌↔◌}
@@ -8,11 +10,8 @@ use Prim.Native.Nat.{ℕ, suc, ◌+◌}
 use native.Mathlib.Nat.{zero-add}
 use native.Mathlib.Omega.{arith}
 use lib.ListN.{length}
-use Rattle.mesh.specs.declared.Broken.{Broken}
-use Rattle.mesh.specs.declared.Broken.TheVariants.{Neither, Rule1, Rule2}
+use Rattle.mesh.specs.declared.TurnRule.TheVariants.{Rule1, Rule2}
 use Rattle.mesh.specs.declared.Heading.{Heading}
-use Rattle.mesh.specs.declared.Last.{Last}
-use Rattle.mesh.specs.declared.Letter.TheVariants.{Hop}
 use Rattle.mesh.specs.declared.Network.{Network}
 use Rattle.mesh.specs.declared.Place.{Place}
 use Rattle.mesh.specs.Headings.{letter, letters, named}
@@ -28,35 +27,35 @@ use Rattle.theory_judging.proofs.Judged.{route-hops, hops-route, route-passed, p
 use Rattle.theory_judging.proofs.Rules.{rule-is, broken-is-rule, reversal-keeps, failed-is-rule}
 
 -- a heading's letter names it
-pub named-letter : (h : Heading) → named (letter h) ≡ Hop h
+pub named-letter : (h : Heading) → named (letter h) ≡ Some h
 named-letter = letter-named
 
 -- and no other byte does
-pub only-letter-named : (x : ℕ) (h : Heading) → named x ≡ Hop h → x ≡ letter h
+pub only-letter-named : (x : ℕ) (h : Heading) → named x ≡ Some h → x ≡ letter h
 only-letter-named = named-hop
 
 -- Of the turn rules: any hop in column c after the last one, l.
-module _ (west : ℕ → Bool) (c : ℕ) (l : Last) (h : Heading) where
+module _ (west : ℕ → Bool) (c : ℕ) (l : Option Heading) (h : Heading) where
   -- it breaks rule 1 exactly if it makes an EN or NW turn where that is forbidden
-  pub rule-1-is-broken : hop_breaks west c l h ≡ Rule1 ↔ BreaksRule west c Rule1 l h
-  rule-1-is-broken = broken-is-rule west c Rule1 (omega arith) l h
+  pub rule-1-is-broken : hop_breaks west c l h ≡ (Some Rule1) ↔ BreaksRule west c (Some Rule1) l h
+  rule-1-is-broken = broken-is-rule west c (Some Rule1) (omega arith) l h
 
   -- and rule 2 exactly if it makes an ES or SW turn where that is
-  pub rule-2-is-broken : hop_breaks west c l h ≡ Rule2 ↔ BreaksRule west c Rule2 l h
-  rule-2-is-broken = broken-is-rule west c Rule2 (omega arith) l h
+  pub rule-2-is-broken : hop_breaks west c l h ≡ (Some Rule2) ↔ BreaksRule west c (Some Rule2) l h
+  rule-2-is-broken = broken-is-rule west c (Some Rule2) (omega arith) l h
 
   -- it breaks one rule at most
-  pub one-rule-at-most : (r s : Broken) → BreaksRule west c r l h → BreaksRule west c s l h → r ≡ s
+  pub one-rule-at-most : (r s : Option TurnRule) → BreaksRule west c r l h → BreaksRule west c s l h → r ≡ s
   one-rule-at-most r s a b = sym (rule-is west c a) ∙ rule-is west c b
 
   -- and none if it reverses
-  pub reversal-breaks-none : turns_back l h ≡ true → hop_breaks west c l h ≡ Neither
+  pub reversal-breaks-none : turns_back l h ≡ true → hop_breaks west c l h ≡ None
   reversal-breaks-none = reversal-keeps west c l h
 
 -- Of any mesh with its bad nodes, either parity, and any packet p on it.
 module _ (t : Trip) (p : At) where
   -- a letter has no mistake exactly if its hop is lawful
-  pub letter-lawful : (h : Heading) → letter_mistake t p (Hop h) ≡ 0 ↔ lawful t p h ≡ true
+  pub letter-lawful : (h : Heading) → letter_mistake t p (Some h) ≡ 0 ↔ lawful t p h ≡ true
   letter-lawful = no-mistake-lawful t p
 
   -- a route is lawful exactly if its hops are, and they end at the destination
@@ -74,12 +73,12 @@ module _ (t : Trip) (p : At) where
 
   -- with 14 exactly if the letters before j are lawful hops in turn, and that of index j stays on the mesh and breaks rule 1: it makes an EN
   -- or NW turn where that is forbidden
-  pub failed-with-14 : (i : ℕ) (xs : List ℕ) (j : ℕ) → judge t p i xs ≡ failed 14 j ↔ BrokeRuleAt t p i xs Rule1 j
-  failed-with-14 i xs j = Iff.trans (failed-at i xs 14 j) (failed-is-rule t p i xs j Rule1 (omega arith))
+  pub failed-with-14 : (i : ℕ) (xs : List ℕ) (j : ℕ) → judge t p i xs ≡ failed 14 j ↔ BrokeRuleAt t p i xs (Some Rule1) j
+  failed-with-14 i xs j = Iff.trans (failed-at i xs 14 j) (failed-is-rule t p i xs j (Some Rule1) (omega arith))
 
   -- with 17 exactly if it breaks rule 2 instead: an ES or SW turn
-  pub failed-with-17 : (i : ℕ) (xs : List ℕ) (j : ℕ) → judge t p i xs ≡ failed 17 j ↔ BrokeRuleAt t p i xs Rule2 j
-  failed-with-17 i xs j = Iff.trans (failed-at i xs 17 j) (failed-is-rule t p i xs j Rule2 (omega arith))
+  pub failed-with-17 : (i : ℕ) (xs : List ℕ) (j : ℕ) → judge t p i xs ≡ failed 17 j ↔ BrokeRuleAt t p i xs (Some Rule2) j
+  failed-with-17 i xs j = Iff.trans (failed-at i xs 17 j) (failed-is-rule t p i xs j (Some Rule2) (omega arith))
 
   -- every lawful route is passed, with its number of hops
   pub route-is-passed : (hs : List Heading) → lawful_route t p hs ≡ true → judge t p 0 (letters hs) ≡ passed (length hs)
@@ -121,14 +120,14 @@ module _ (network : Network) (columns rows : ℕ) (map : List ℕ) (s d : Place)
   -- A hand-in fails with 14 at index j exactly if no refusal applies, the letters before j are lawful, and letter j makes an EN or NW turn where
   -- that is forbidden, without leaving the mesh (which is told first, by 12);
   pub judgement-with-14 : (xs : List ℕ) (j : ℕ) →
-      judgement network columns rows map s d xs ≡ failed 14 j ↔ ((refusal_of columns rows map s d ≡ 0) × BrokeRuleAt (trip_to network columns rows map d) (fresh s) 0 xs Rule1 j)
+      judgement network columns rows map s d xs ≡ failed 14 j ↔ ((refusal_of columns rows map s d ≡ 0) × BrokeRuleAt (trip_to network columns rows map d) (fresh s) 0 xs (Some Rule1) j)
   judgement-with-14 xs j =
       Iff.trans (failed-judged network columns rows map s d xs (omega arith))
-      (Iff.and Iff.rfl (failed-is-rule (trip_to network columns rows map d) (fresh s) 0 xs j Rule1 (omega arith)))
+      (Iff.and Iff.rfl (failed-is-rule (trip_to network columns rows map d) (fresh s) 0 xs j (Some Rule1) (omega arith)))
 
   -- with 17 exactly if an ES or SW turn.
   pub judgement-with-17 : (xs : List ℕ) (j : ℕ) →
-      judgement network columns rows map s d xs ≡ failed 17 j ↔ ((refusal_of columns rows map s d ≡ 0) × BrokeRuleAt (trip_to network columns rows map d) (fresh s) 0 xs Rule2 j)
+      judgement network columns rows map s d xs ≡ failed 17 j ↔ ((refusal_of columns rows map s d ≡ 0) × BrokeRuleAt (trip_to network columns rows map d) (fresh s) 0 xs (Some Rule2) j)
   judgement-with-17 xs j =
       Iff.trans (failed-judged network columns rows map s d xs (omega arith))
-      (Iff.and Iff.rfl (failed-is-rule (trip_to network columns rows map d) (fresh s) 0 xs j Rule2 (omega arith)))
+      (Iff.and Iff.rfl (failed-is-rule (trip_to network columns rows map d) (fresh s) 0 xs j (Some Rule2) (omega arith)))

@@ -1,12 +1,9 @@
 -- What is shown of a judged hand-in (document 01, "Judge a hand-in"): xs are its bytes, t and p are what the hop rules look at. Assumes nothing.
-use Rattle.std.specs.Prelude.{◌≡◌, Bool, true, false, ◌&&◌, List, [], ◌∷◌, ◌++◌, ℕ, ◌-◌, ◌≤◌, ◌<◌, length, get_or, take}
-use Rattle.mesh.specs.declared.Broken.{Broken}
-use Rattle.mesh.specs.declared.Broken.TheVariants.{Rule1, Rule2}
+use Rattle.mesh.specs.declared.TurnRule.{TurnRule}
+use Rattle.std.specs.Prelude.{◌≡◌, Bool, true, false, ◌&&◌, List, [], ◌∷◌, ◌++◌, ℕ, ◌-◌, ◌≤◌, ◌<◌, length, get_or, take, Option, Some, None}
+use Rattle.mesh.specs.declared.TurnRule.TheVariants.{Rule1, Rule2}
 use Rattle.mesh.specs.declared.Heading.{Heading}
 use Rattle.mesh.specs.declared.Heading.TheVariants.{East as E, North as N, South as S, West as W}
-use Rattle.mesh.specs.declared.Last.{Last}
-use Rattle.mesh.specs.declared.Last.TheVariants.{Made as made}
-use Rattle.mesh.specs.declared.Letter.TheVariants.{Hop, Other}
 use Rattle.mesh.specs.declared.Network.{Network}
 use Rattle.mesh.specs.declared.Place.{Place}
 use Rattle.mesh.specs.Mesh.{mesh}
@@ -38,8 +35,8 @@ after (h ∷ hs) p = after hs (moved h p)
 
 -- a byte that is no lawful hop of a packet at p: no letter, or the letter of a hop that is not lawful
 pub data NotLawful (t : Trip) (p : At) (x : ℕ) : Type 0 where
-  no-letter : named x ≡ Other → NotLawful t p x
-  unlawful : (h : Heading) → named x ≡ Hop h → lawful t p h ≡ false → NotLawful t p x
+  no-letter : named x ≡ None → NotLawful t p x
+  unlawful : (h : Heading) → named x ≡ Some h → lawful t p h ≡ false → NotLawful t p x
 
 -- what is wrong where n letters have brought the packet to p: the letter of index n, by the number k of its mistake; or the end, by 16
 pub data WentWrong (t : Trip) (p : At) (xs : List ℕ) (n k : ℕ) : Type 0 where
@@ -47,17 +44,17 @@ pub data WentWrong (t : Trip) (p : At) (xs : List ℕ) (n k : ℕ) : Type 0 wher
   at-end : n ≡ length xs → arrived t p ≡ false → k ≡ 16 → WentWrong t p xs n k
 
 -- the turns of rules 1 and 2 of document 001, in the columns where they are forbidden; `west` are those that permit NW and SW
-pub data BreaksRule (west : ℕ → Bool) (c : ℕ) : Broken → Last → Heading → Type 0 where
-  EN : west c ≡ true → BreaksRule west c Rule1 (made E) N
-  NW : west c ≡ false → BreaksRule west c Rule1 (made N) W
-  ES : west c ≡ true → BreaksRule west c Rule2 (made E) S
-  SW : west c ≡ false → BreaksRule west c Rule2 (made S) W
+pub data BreaksRule (west : ℕ → Bool) (c : ℕ) : Option TurnRule → Option Heading → Heading → Type 0 where
+  EN : west c ≡ true → BreaksRule west c (Some Rule1) (Some E) N
+  NW : west c ≡ false → BreaksRule west c (Some Rule1) (Some N) W
+  ES : west c ≡ true → BreaksRule west c (Some Rule2) (Some E) S
+  SW : west c ≡ false → BreaksRule west c (Some Rule2) (Some S) W
 
 -- where n letters have brought the packet to p: the hop of the letter of index n stays on the mesh and breaks rule r
-pub record LetterBreaks (t : Trip) (p : At) (xs : List ℕ) (n : ℕ) (r : Broken) : Type 0 where
+pub record LetterBreaks (t : Trip) (p : At) (xs : List ℕ) (n : ℕ) (r : Option TurnRule) : Type 0 where
   pub there : n < length xs
   pub hop : Heading
-  pub spelled : named (get_or xs n 0) ≡ Hop hop
+  pub spelled : named (get_or xs n 0) ≡ Some hop
   pub on-mesh : stays t.columns t.rows hop p.row p.column ≡ true
   pub broken : BreaksRule t.west p.column r p.last hop
 
@@ -75,7 +72,7 @@ abbrev pub FailedAt : Trip → At → ℕ → List ℕ → ℕ → ℕ → Type 
 FailedAt t p i xs k j = LawfulUpTo t p i xs j (λ q n. WentWrong t q xs n k)
 
 -- rule r is broken
-abbrev pub BrokeRuleAt : Trip → At → ℕ → List ℕ → Broken → ℕ → Type 0
+abbrev pub BrokeRuleAt : Trip → At → ℕ → List ℕ → Option TurnRule → ℕ → Type 0
 BrokeRuleAt t p i xs r j = LawfulUpTo t p i xs j (λ q n. LetterBreaks t q xs n r)
 
 -- The arguments of the operation: the number of the first of refusals 1 to 7 that applies, or 0;

@@ -1,12 +1,12 @@
 -- The faults that reading meets: 19 and 20 at a number, up to 21 at the legs, up to 22 in all. Assumes nothing.
+use Rattle.std.specs.Prelude.{Option, Some, None}
+use Rattle.mesh.specs.declared.Heading.{Heading}
 use mathlib.Core.Path.{◌≡◌}
 use mathlib.Core.Bool.{Bool, true, false, cond}
 use mathlib.Core.List.{List, [], ◌∷◌}
 use Prim.Native.Nat.{ℕ, zero, suc, ◌≤◌}
 use native.Mathlib.Omega.{arith}
 use lib.Dec.{ltb}
-use Rattle.mesh.specs.declared.Last.{Last}
-use Rattle.mesh.specs.declared.Last.TheVariants.{None as none, Made as made}
 use Rattle.mesh.specs.Headings.{last_is}
 use Rattle.theory_legs.specs.Groups.{Found, fault, found, and_then, above, read_groups, not_large, read_number}
 use Rattle.theory_legs.specs.Legs.{Leg}
@@ -53,13 +53,13 @@ unfolding leg_before
 before-known l (fault k) p = p
 before-known l (found ls rest) p = is_found
 
-legs-known : (k : ℕ) (before : Last) (xs : List ℕ) → Known 21 (read_legs k before xs)
+legs-known : (k : ℕ) (before : Option Heading) (xs : List ℕ) → Known 21 (read_legs k before xs)
 unfolding read_legs
 legs-known zero before xs = is_found
 legs-known (suc k) before xs =
     known-then (read_number xs) _ (omega arith) (number-known xs)
     (λ n rest.
-    let next = made (leg_of n).heading in
+    let next = Some (leg_of n).heading in
     known-cond (last_is before (leg_of n).heading) (is-fault 21 (omega arith) (omega arith))
     (before-known (leg_of n) (read_legs k next rest) (legs-known k next rest)))
 
@@ -72,12 +72,12 @@ file-known : (ys : List ℕ) → Known 22 (read_file ys)
 unfolding read_file
 file-known ys =
     known-then (and_then (read_number ys) _) all_read (omega arith)
-    (known-then (read_number ys) _ (omega arith) (number-known ys) (λ k rest. legs-known k none rest)) all_known
+    (known-then (read_number ys) _ (omega arith) (number-known ys) (λ k rest. legs-known k None rest)) all_known
 
 pub number-fault-known : (ys : List ℕ) {k : ℕ} → read_number ys ≡ fault k → (19 ≤ k) × (k ≤ 20)
 number-fault-known ys e = told-known (rw e at (number-known ys))
 
-pub legs-fault-known : (n : ℕ) (before : Last) (ys : List ℕ) {k : ℕ} → read_legs n before ys ≡ fault k → (19 ≤ k) × (k ≤ 21)
+pub legs-fault-known : (n : ℕ) (before : Option Heading) (ys : List ℕ) {k : ℕ} → read_legs n before ys ≡ fault k → (19 ≤ k) × (k ≤ 21)
 legs-fault-known n before ys e = told-known (rw e at (legs-known n before ys))
 
 pub fault-known : (ys : List ℕ) {k : ℕ} → read_file ys ≡ fault k → (19 ≤ k) × (k ≤ 22)

@@ -1,4 +1,5 @@
 -- When a file is refused: 22 and 10 by their conditions. Assumes nothing.
+use Rattle.std.specs.Prelude.{None}
 use mathlib.Core.Path.{◌≡◌, refl, sym, ap, ◌∙◌}
 use mathlib.Core.Logic.{◌↔◌}
 use mathlib.Core.Bool.{true}
@@ -8,7 +9,6 @@ use native.Mathlib.Decide.{dec_lt}
 use native.Mathlib.Omega.{arith}
 use borrow.Author.Tests.{lt-ltb}
 use lib.ListN.{length}
-use Rattle.mesh.specs.declared.Last.TheVariants.{None as none}
 use Rattle.mesh.specs.Tests.{first}
 use Rattle.mesh.proofs.Tests.{numbered}
 use Rattle.theory_legs.specs.Groups.{fault, found, and_then, read_number}
@@ -118,10 +118,10 @@ fault-left ys bs e =
           let z : k ≡ 22 = cc (rw u at e) in
           absurd (omega (arith, number-fault-known ys u))
       | read n after u ↦
-          elim (outcome (read_legs n none after)) [
+          elim (outcome (read_legs n None after)) [
             | faulty k v ↦
                 let z : k ≡ 22 = cc (rw (u, v) at e) in
-                absurd (omega (arith, legs-fault-known n none after v))
+                absurd (omega (arith, legs-fault-known n None after v))
             | read ls rest v ↦
                 let t = file-legs-read ys bs u v in
                 record {

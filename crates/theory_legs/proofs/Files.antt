@@ -1,4 +1,6 @@
 -- Legs read back from their file are the same, and a file that is read is that of its legs. Assumes nothing.
+use Rattle.std.specs.Prelude.{Option, Some, None}
+use Rattle.mesh.specs.declared.Heading.{Heading}
 use mathlib.Core.Path.{◌≡◌, refl, ap, ◌∙◌}
 use mathlib.Core.Logic.{inl, inr}
 use mathlib.Core.Bool.{true, false}
@@ -8,8 +10,6 @@ use native.Mathlib.Nat.{mod-lt}
 use native.Mathlib.Omega.{arith}
 use borrow.Author.Tests.{ltb-false, le-ltb}
 use lib.ListN.{length}
-use Rattle.mesh.specs.declared.Last.{Last}
-use Rattle.mesh.specs.declared.Last.TheVariants.{None as none, Made as made}
 use Rattle.mesh.specs.Headings.{last_is, code}
 use Rattle.mesh.proofs.Bools.{value, or-none}
 use Rattle.mesh.proofs.Headings.{code-few, direction-of-code, code-of-direction}
@@ -48,7 +48,7 @@ leg-short n h = omega arith
 
 -- One leg
 
-module _ (k : ℕ) (before : Last) (xs : List ℕ) where
+module _ (k : ℕ) (before : Option Heading) (xs : List ℕ) where
   -- its number is not read
   pub leg-unread : {f : ℕ} → read_number xs ≡ fault f → read_legs (suc k) before xs ≡ fault f
   unfolding read_legs and_then
@@ -62,13 +62,13 @@ module _ (k : ℕ) (before : Last) (xs : List ℕ) where
 
     -- it is before the others
     pub leg-differs : last_is before (leg_of n).heading ≡ false →
-        read_legs (suc k) before xs ≡ leg_before (leg_of n) (read_legs k (made (leg_of n).heading) rest)
+        read_legs (suc k) before xs ≡ leg_before (leg_of n) (read_legs k (Some (leg_of n).heading) rest)
     unfolding read_legs and_then
     leg-differs r = rw (e, r)
 
 -- There and back
 
-read-legs : (before : Last) (ls : List Leg) (rest : List ℕ) → Straight before ls → some_long ls ≡ false →
+read-legs : (before : Option Heading) (ls : List Leg) (rest : List ℕ) → Straight before ls → some_long ls ≡ false →
     read_legs (length ls) before (leg_bytes ls ++ rest) ≡ found ls rest
 unfolding read_legs leg_bytes Straight some_long leg_before
 read-legs before [] rest s e = refl
@@ -79,16 +79,16 @@ read-legs before (l ∷ ls) rest s e =
     let small = leg-number-small l s.1 (ltb-false 16384 l.length short.0) in
     rw (append_assoc (number_bytes n) (leg_bytes ls) rest)
     (leg-differs (length ls) before (number_bytes n ++ (leg_bytes ls ++ rest)) (read_number_lem n (leg_bytes ls ++ rest) small) (rw same-leg s.0) ∙
-    rw (same-leg, read-legs (made l.heading) ls rest s.2 short.1))
+    rw (same-leg, read-legs (Some l.heading) ls rest s.2 short.1))
 
 -- what is known of legs that were read
-record LegsRead (k : ℕ) (before : Last) (xs : List ℕ) (ls : List Leg) (rest : List ℕ) : Type 0 where
+record LegsRead (k : ℕ) (before : Option Heading) (xs : List ℕ) (ls : List Leg) (rest : List ℕ) : Type 0 where
   pub spelled : xs ≡ leg_bytes ls ++ rest
   pub count : length ls ≡ k
   pub straight : Straight before ls
   pub short : some_long ls ≡ false
 
-legs-read : (k : ℕ) (before : Last) (xs : List ℕ) {ls : List Leg} {rest : List ℕ} → Bytes xs →
+legs-read : (k : ℕ) (before : Option Heading) (xs : List ℕ) {ls : List Leg} {rest : List ℕ} → Bytes xs →
     read_legs k before xs ≡ found ls rest → LegsRead k before xs ls rest
 unfolding read_legs leg_bytes Straight some_long leg_before
 legs-read zero before xs {ls} {rest} bs e =
@@ -103,13 +103,13 @@ legs-read (suc k) before xs {ls} {rest} bs e =
             | inl r ↦ fault-found (leg-repeats k before xs u r) e
             | inr r ↦
                 let told = number_read xs u in
-                elim (outcome (read_legs k (made (leg_of n).heading) after)) [
+                elim (outcome (read_legs k (Some (leg_of n).heading) after)) [
                   | faulty f v ↦ fault-found {k = f} (leg-differs k before xs u r ∙ rw v) e
                   | read others left v ↦
                       let d : read_legs (suc k) before xs ≡ found (leg_of n ∷ others) left = leg-differs k before xs u r ∙ rw v in
                       let all : leg_of n ∷ others ≡ ls = cc in
                       let end : left ≡ rest = cc in
-                      let t = legs-read k (made (leg_of n).heading) after (told.left bs) v in
+                      let t = legs-read k (Some (leg_of n).heading) after (told.left bs) v in
                       rw (← all, ← end)
                       (record {
                         spelled =
@@ -130,46 +130,46 @@ unfolding Bytes
 bytes-append [] ys p q = q
 bytes-append (x ∷ xs) ys p q = (p.0, bytes-append xs ys p.1 q)
 
-legs-bytes : (before : Last) (ls : List Leg) → Straight before ls → some_long ls ≡ false → Bytes (leg_bytes ls)
+legs-bytes : (before : Option Heading) (ls : List Leg) → Straight before ls → some_long ls ≡ false → Bytes (leg_bytes ls)
 unfolding leg_bytes Straight some_long Bytes
 legs-bytes before [] s e = tt
 legs-bytes before (l ∷ ls) s e =
     let short = or-none _ _ e in
     let small = leg-number-small l s.1 (ltb-false 16384 l.length short.0) in
     bytes-append (number_bytes (leg_number l)) (leg_bytes ls) (number-bytes (leg_number l) small)
-    (legs-bytes (made l.heading) ls s.2 short.1)
+    (legs-bytes (Some l.heading) ls s.2 short.1)
 
-pub file-bytes : (ls : List Leg) → Straight none ls → too_long ls ≡ false → Bytes (file ls)
+pub file-bytes : (ls : List Leg) → Straight None ls → too_long ls ≡ false → Bytes (file ls)
 unfolding file too_long
 file-bytes ls s e =
     let fit = or-none _ _ e in
     bytes-append (number_bytes (length ls)) (leg_bytes ls) (number-bytes (length ls) (ltb-false 65535 (length ls) fit.1))
-    (legs-bytes none ls s fit.0)
+    (legs-bytes None ls s fit.0)
 
 -- the number of legs, the legs and what is left over
-pub read-file-rest : (ls : List Leg) (rest : List ℕ) → Straight none ls → too_long ls ≡ false → read_file (file ls ++ rest) ≡ all_read ls rest
+pub read-file-rest : (ls : List Leg) (rest : List ℕ) → Straight None ls → too_long ls ≡ false → read_file (file ls ++ rest) ≡ all_read ls rest
 unfolding read_file file and_then too_long
 read-file-rest ls rest s e =
     let fit = or-none _ _ e in
     let count = read_number_lem (length ls) (leg_bytes ls ++ rest) (ltb-false 65535 (length ls) fit.1) in
-    rw (append_assoc (number_bytes (length ls)) (leg_bytes ls) rest, count, read-legs none ls rest s fit.0)
+    rw (append_assoc (number_bytes (length ls)) (leg_bytes ls) rest, count, read-legs None ls rest s fit.0)
 
-pub read-file : (ls : List Leg) → Straight none ls → too_long ls ≡ false → read_file (file ls) ≡ found ls []
+pub read-file : (ls : List Leg) → Straight None ls → too_long ls ≡ false → read_file (file ls) ≡ found ls []
 unfolding all_read
 read-file ls s e = rw append-nil at (read-file-rest ls [] s e)
 
 -- what is known of a file whose legs were read, and what is left over
 pub record FileRead (xs : List ℕ) (ls : List Leg) (rest : List ℕ) : Type 0 where
   pub spelled : xs ≡ file ls ++ rest
-  pub straight : Straight none ls
+  pub straight : Straight None ls
   pub fits : too_long ls ≡ false
 
 pub file-legs-read : (xs : List ℕ) {n : ℕ} {after : List ℕ} {ls : List Leg} {rest : List ℕ} → Bytes xs →
-    read_number xs ≡ found n after → read_legs n none after ≡ found ls rest → FileRead xs ls rest
+    read_number xs ≡ found n after → read_legs n None after ≡ found ls rest → FileRead xs ls rest
 unfolding file too_long
 file-legs-read xs {n} {after} {ls} {rest} bs u v =
     let told = number_read xs u in
-    let t = legs-read n none after (told.left bs) v in
+    let t = legs-read n None after (told.left bs) v in
     let few : length ls ≤ 65535 = omega (arith, told.small, t.count) in
     record {
       spelled =
@@ -184,7 +184,7 @@ file-read xs {ls} {rest} bs e =
     elim (outcome (read_number xs)) [
       | faulty f u ↦ fault-found {k = f} (rw u) e
       | read n after u ↦
-          elim (outcome (read_legs n none after)) [
+          elim (outcome (read_legs n None after)) [
             | faulty f v ↦ fault-found {k = f} (rw (u, v)) e
             | read others left v ↦
                 let w : all_read others left ≡ found ls rest = rw (u, v) at e in

@@ -1,4 +1,6 @@
 -- Reading goes from the front: what was read, and any fault but 19, stays whatever bytes follow. Assumes nothing.
+use Rattle.std.specs.Prelude.{Option, Some, None}
+use Rattle.mesh.specs.declared.Heading.{Heading}
 use mathlib.Core.Path.{◌≡◌, sym}
 use mathlib.Core.Logic.{◌≢◌}
 use mathlib.Core.Bool.{Bool, true, false, cond}
@@ -6,8 +8,6 @@ use mathlib.Core.List.{List, [], ◌∷◌, ◌++◌}
 use Prim.Native.Nat.{ℕ, zero, suc}
 use native.Mathlib.Omega.{arith}
 use lib.Dec.{ltb}
-use Rattle.mesh.specs.declared.Last.{Last}
-use Rattle.mesh.specs.declared.Last.TheVariants.{None as none, Made as made}
 use Rattle.mesh.specs.Headings.{last_is}
 use Rattle.theory_legs.specs.Groups.{Found, fault, found, and_then, above, read_groups, not_large, read_number}
 use Rattle.theory_legs.specs.Legs.{Leg}
@@ -54,14 +54,14 @@ module _ (more : List ℕ) where
   before-extends l both-fault = both-fault
   before-extends l cut_short = cut_short
 
-  legs-extend : (k : ℕ) (before : Last) (xs : List ℕ) → Extends (read_legs k before xs) (read_legs k before (xs ++ more))
+  legs-extend : (k : ℕ) (before : Option Heading) (xs : List ℕ) → Extends (read_legs k before xs) (read_legs k before (xs ++ more))
   unfolding read_legs
   legs-extend zero before xs = both_found
   legs-extend (suc k) before xs =
       then-extends (number-extends xs)
       (λ n rest.
       cond-extends (last_is before (leg_of n).heading) both-fault
-      (before-extends (leg_of n) (legs-extend k (made (leg_of n).heading) rest)))
+      (before-extends (leg_of n) (legs-extend k (Some (leg_of n).heading) rest)))
 
   -- bytes left over stay left over
   all-stays : {x y : Found (List Leg)} {k : ℕ} → Extends x y → and_then x all_read ≡ fault k → k ≢ 19 → and_then y all_read ≡ fault k
@@ -73,4 +73,4 @@ module _ (more : List ℕ) where
 
   pub fault-stays : (ys : List ℕ) {k : ℕ} → read_file ys ≡ fault k → k ≢ 19 → read_file (ys ++ more) ≡ fault k
   unfolding read_file
-  fault-stays ys e n = all-stays (then-extends (number-extends ys) (λ k rest. legs-extend k none rest)) e n
+  fault-stays ys e n = all-stays (then-extends (number-extends ys) (λ k rest. legs-extend k None rest)) e n

@@ -1,4 +1,5 @@
 -- Letters and the hops that they name. Assumes nothing.
+use Rattle.std.specs.Prelude.{Some, None}
 use mathlib.Core.Path.{◌≡◌, refl, sym, ◌∙◌}
 use mathlib.Core.Logic.{◌↔◌, inl, inr}
 use mathlib.Core.Bool.{true, false}
@@ -7,7 +8,6 @@ use Prim.Native.Nat.{ℕ, suc}
 use native.Mathlib.Omega.{arith}
 use lib.ListN.{get_or}
 use Rattle.mesh.specs.declared.Heading.{Heading}
-use Rattle.mesh.specs.declared.Letter.TheVariants.{Hop, Other}
 use Rattle.mesh.specs.Headings.{letters, named}
 use Rattle.mesh.specs.Maps.{some}
 use Rattle.mesh.proofs.Bools.{value, or-none, true-false}
@@ -50,7 +50,7 @@ other-told i [] e = true-false e refl
 other-told i (x ∷ xs) e =
     elim (name x) [
       | is-hop h s ↦
-          let n : named x ≡ Hop h = rw s (letter-named h) in
+          let n : named x ≡ Some h = rw s (letter-named h) in
           let o = other-told (suc i) xs (rw n at e) in
           record { index = suc o.index; within = omega (arith, o.within); no-letter = o.no-letter }
       | is-other n ↦
@@ -61,7 +61,7 @@ other-told i (x ∷ xs) e =
           }
     ]
   where
-    other-hop : (h : Heading) → Other ≡ Hop h → ⊥
+    other-hop : (h : Heading) → None ≡ Some h → ⊥
     other-hop h e = let z : ◌≡◌ {A = ℕ} 0 1 = cc in omega arith
 
 pub some-other : (xs : List ℕ) → some_other xs ≡ true ↔ SomeOther xs

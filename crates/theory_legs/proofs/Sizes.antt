@@ -1,4 +1,5 @@
 -- How many bytes and letters legs have. Assumes nothing.
+use Rattle.std.specs.Prelude.{Option, Some, None}
 use mathlib.Core.Path.{◌≡◌, refl, sym, ◌∙◌}
 use mathlib.Core.Bool.{false}
 use mathlib.Core.List.{List, [], ◌∷◌}
@@ -8,8 +9,6 @@ use native.Mathlib.Omega.{arith}
 use borrow.Author.Tests.{le-ltb}
 use lib.ListN.{length, replicate, length-append, length-replicate}
 use Rattle.mesh.specs.declared.Heading.{Heading}
-use Rattle.mesh.specs.declared.Last.{Last}
-use Rattle.mesh.specs.declared.Last.TheVariants.{None as none, Made as made}
 use Rattle.mesh.specs.Headings.{code, letters}
 use Rattle.mesh.proofs.Headings.{code-few}
 use Rattle.mesh.proofs.Lists.{letters-length}
@@ -51,7 +50,7 @@ hops-length l ls = length-append (replicate l.length l.heading) (hops ls) ∙ rw
 
 -- of straight legs
 module _ where
-  bytes-shorter : (before : Last) (ls : List Leg) → Straight before ls → length (leg_bytes ls) ≤ length (hops ls)
+  bytes-shorter : (before : Option Heading) (ls : List Leg) → Straight before ls → length (leg_bytes ls) ≤ length (hops ls)
   unfolding leg_bytes Straight
   bytes-shorter before [] s = omega arith
   bytes-shorter before (l ∷ ls) s =
@@ -60,13 +59,13 @@ module _ where
         hops-length l ls,
         length-append (number_bytes (leg_number l)) (leg_bytes ls),
         leg-shorter l.heading l.length s.1,
-        bytes-shorter (made l.heading) ls s.2,
+        bytes-shorter (Some l.heading) ls s.2,
       )
 
-  legs-fewer : (before : Last) (ls : List Leg) → Straight before ls → length ls ≤ length (hops ls)
+  legs-fewer : (before : Option Heading) (ls : List Leg) → Straight before ls → length ls ≤ length (hops ls)
   unfolding Straight
   legs-fewer before [] s = omega arith
-  legs-fewer before (l ∷ ls) s = omega (arith, hops-length l ls, s.1, legs-fewer (made l.heading) ls s.2)
+  legs-fewer before (l ∷ ls) s = omega (arith, hops-length l ls, s.1, legs-fewer (Some l.heading) ls s.2)
 
 none-long : (ls : List Leg) → length (hops ls) ≤ 16384 → some_long ls ≡ false
 unfolding some_long
@@ -82,7 +81,7 @@ file-shorter xs a =
     let ls = legs_of xs in
     let same-letters = letters-of-hops xs (accepted-fits xs a).0 in
     let same_size : length (hops ls) ≡ length xs = rw (hops-of-legs (hops_named xs)) (sym (letters-length (hops_named xs)) ∙ rw same-letters) in
-    omega (arith, length-append (number_bytes (length ls)) (leg_bytes ls), size_few (length ls), bytes-shorter none ls (legs-straight (hops_named xs)))
+    omega (arith, length-append (number_bytes (length ls)) (leg_bytes ls), size_few (length ls), bytes-shorter None ls (legs-straight (hops_named xs)))
 
 -- a route of 16,384 hops or fewer is accepted
 pub short-accepted : (hs : List Heading) → length hs ≤ 16384 → RouteAccepted (letters hs)
@@ -90,6 +89,6 @@ unfolding too_long
 short-accepted hs h =
     let ls = legs hs in
     let size : length (hops ls) ≡ length hs = rw (hops-of-legs hs) in
-    let few = legs-fewer none ls (legs-straight hs) in
+    let few = legs-fewer None ls (legs-straight hs) in
     fits-accepted (letters hs) (letters-no-other hs)
     (rw (hops-of-letters hs, none-long ls (omega arith), le-ltb 65535 (length ls) (omega arith)))

@@ -1,4 +1,6 @@
 -- What is shown of legs and their files (document 02, E3). Each theorem is proved in the file that its proof cites. Assumes nothing.
+use Rattle.std.specs.Prelude.{None, Result, Ok}
+use Rattle.theory_legs.specs.declared.LegRefusal.{LegRefusal}
 use mathlib.Core.Path.{◌≡◌, refl}
 use mathlib.Core.Logic.{◌⊎◌, ◌↔◌}
 use mathlib.Core.List.{List, ◌++◌}
@@ -6,7 +8,6 @@ use Prim.Native.Nat.{ℕ, suc, ◌+◌, ◌≤◌, ◌<◌}
 use native.Mathlib.Omega.{arith}
 use lib.ListN.{length, take, drop}
 use Rattle.mesh.specs.declared.Heading.{Heading}
-use Rattle.mesh.specs.declared.Last.TheVariants.{None as none}
 use Rattle.mesh.specs.declared.Network.{Network}
 use Rattle.mesh.specs.declared.Place.{Place}
 use Rattle.mesh.specs.Headings.{letters, code, direction}
@@ -16,8 +17,6 @@ use Rattle.mesh.proofs.Headings.{direction-of-code, code-of-direction}
 use Rattle.theory_demands.specs.Demand3 as demand3
 use Rattle.theory_demands.specs.Demand3.{request_refusal}
 use Rattle.theory_demands.proofs.Theorems.{routes-are-short}
-use Rattle.theory_legs.specs.declared.Converted.{Converted}
-use Rattle.theory_legs.specs.declared.Converted.TheVariants.{Wrote}
 use Rattle.theory_legs.specs.Legs.{Leg, legs, hops}
 use Rattle.theory_legs.specs.Converting.{converted_answer, refusal, Converts, legs_of, letter_tests, file_of, LettersToLegs, file_tests, letters_of, LegsToLetters}
 use Rattle.theory_legs.specs.Claims.{Bytes, Straight, SomeOther, SomeLong, RouteAccepted, FileAccepted, FileOfRoute, LeftOver}
@@ -36,11 +35,11 @@ pub legs-have-hops : (hs : List Heading) → hops (legs hs) ≡ hs
 legs-have-hops = hops-of-legs
 
 -- none is empty, and neighbouring legs differ in direction
-pub legs-are-straight : (hs : List Heading) → Straight none (legs hs)
+pub legs-are-straight : (hs : List Heading) → Straight None (legs hs)
 legs-are-straight = legs-straight
 
 -- and no other straight runs have these hops
-pub legs-are-the-only : (hs : List Heading) (ls : List Leg) → Straight none ls → hops ls ≡ hs → ls ≡ legs hs
+pub legs-are-the-only : (hs : List Heading) (ls : List Leg) → Straight None ls → hops ls ≡ hs → ls ≡ legs hs
 legs-are-the-only = legs-only
 
 -- There and back, with room enough
@@ -54,25 +53,25 @@ pub file-there-and-back : (ys : List ℕ) → Bytes ys → FileAccepted ys → R
 file-there-and-back ys bs a = (file-letters-accepted ys bs a, file-letters-file ys bs a)
 
 -- the same of the operations, which keep their promises: of what letters to legs wrote, legs to letters makes the letters again,
-pub letters-again : {xs out : List ℕ} {n : ℕ} {after : List ℕ} → LettersToLegs xs out (Wrote n) after →
-    {out' : List ℕ} {r : Converted} {after' : List ℕ} → LegsToLetters (take n after) out' r after' → length xs ≤ length out' →
-    (r ≡ Wrote (length xs)) × (take (length xs) after' ≡ xs)
+pub letters-again : {xs out : List ℕ} {n : ℕ} {after : List ℕ} → LettersToLegs xs out (Ok n) after →
+    {out' : List ℕ} {r : Result ℕ LegRefusal} {after' : List ℕ} → LegsToLetters (take n after) out' r after' → length xs ≤ length out' →
+    (r ≡ Ok (length xs)) × (take (length xs) after' ≡ xs)
 letters-again {xs} p q room =
     let t = wrote-all p refl in
     let back = route-file-letters xs t.0 in
     rw back at (writes-all (rw t.1 at q) (file-numbered (file_of xs)) (route-file-accepted xs t.0) (rw back room))
 
 -- and of what legs to letters wrote, letters to legs makes the file again
-pub file-again : {ys out : List ℕ} {n : ℕ} {after : List ℕ} → Bytes ys → LegsToLetters ys out (Wrote n) after →
-    {out' : List ℕ} {r : Converted} {after' : List ℕ} → LettersToLegs (take n after) out' r after' → length ys ≤ length out' →
-    (r ≡ Wrote (length ys)) × (take (length ys) after' ≡ ys)
+pub file-again : {ys out : List ℕ} {n : ℕ} {after : List ℕ} → Bytes ys → LegsToLetters ys out (Ok n) after →
+    {out' : List ℕ} {r : Result ℕ LegRefusal} {after' : List ℕ} → LettersToLegs (take n after) out' r after' → length ys ≤ length out' →
+    (r ≡ Ok (length ys)) × (take (length ys) after' ≡ ys)
 file-again {ys} bs p q room =
     let t = wrote-all p refl in
     let back = file-letters-file ys bs t.0 in
     rw back at (writes-all (rw t.1 at q) (letters-numbered (letters_of ys)) (file-letters-accepted ys bs t.0) (rw back room))
 
 -- bytes after what was written are as they were
-pub rest-untouched : {tests : List Test} {new out : List ℕ} {n : ℕ} {after : List ℕ} → Converts tests new out (Wrote n) after →
+pub rest-untouched : {tests : List Test} {new out : List ℕ} {n : ℕ} {after : List ℕ} → Converts tests new out (Ok n) after →
     drop n after ≡ drop n out
 rest-untouched does = rest-as-was does refl
 
@@ -107,7 +106,7 @@ file-room = file-shorter
 -- Refusals
 
 -- where one applies, the first that does is the answer, and no byte is altered
-pub else-refused : {tests : List Test} {new out : List ℕ} {r : Converted} {after : List ℕ} → Converts tests new out r after →
+pub else-refused : {tests : List Test} {new out : List ℕ} {r : Result ℕ LegRefusal} {after : List ℕ} → Converts tests new out r after →
     {k : ℕ} → refusal tests new out ≡ suc k → (converted_answer r ≡ refused (suc k)) × (after ≡ out)
 unfolding answer written
 else-refused does e = (rw e at does.answers, rw e at does.writes)

@@ -1,9 +1,9 @@
 -- There and back from either side changes nothing in what the first way accepts. Assumes nothing.
+use Rattle.std.specs.Prelude.{None}
 use mathlib.Core.Path.{◌≡◌, ap, sym, ◌∙◌}
 use mathlib.Core.Logic.{◌↔◌}
 use mathlib.Core.List.{List, [], append-nil}
 use Prim.Native.Nat.{ℕ}
-use Rattle.mesh.specs.declared.Last.TheVariants.{None as none}
 use Rattle.mesh.specs.Headings.{letters}
 use Rattle.theory_legs.specs.Groups.{found}
 use Rattle.theory_legs.specs.Legs.{Leg, hops}
@@ -50,7 +50,7 @@ module _ (ys : List ℕ) (bs : Bytes ys) (a : FileAccepted ys) where
 
   -- the legs of a file's letters are those that were read
   letters-legs : legs_of (letters_of ys) ≡ legs-there
-  letters-legs = rw (letters-there, hops-of-letters (hops legs-there)) (legs-of-hops none legs-there there-read.straight)
+  letters-legs = rw (letters-there, hops-of-letters (hops legs-there)) (legs-of-hops None legs-there there-read.straight)
 
   pub file-letters-accepted : RouteAccepted (letters_of ys)
   file-letters-accepted =

@@ -1,9 +1,7 @@
 -- What is shown of legs and their files: xs are letters, ys the bytes of a file. Assumes nothing.
-use Rattle.std.specs.Prelude.{◌≡◌, ◌≢◌, false, List, [], ◌∷◌, ◌++◌, ℕ, ◌≤◌, ◌<◌, length, get_or}
+use Rattle.std.specs.Prelude.{◌≡◌, ◌≢◌, false, List, [], ◌∷◌, ◌++◌, ℕ, ◌≤◌, ◌<◌, length, get_or, Option, Some}
 use Rattle.mesh.specs.declared.Heading.{Heading}
 use Rattle.mesh.specs.declared.Heading.TheVariants.{East as E}
-use Rattle.mesh.specs.declared.Last.{Last}
-use Rattle.mesh.specs.declared.Last.TheVariants.{Made as made}
 use Rattle.mesh.specs.Headings.{letter, last_is}
 use Rattle.mesh.specs.Tests.{first}
 use Rattle.theory_legs.specs.Legs.{Leg, leg}
@@ -15,9 +13,9 @@ Bytes [] = Unit {0}
 Bytes (x ∷ xs) = (x < 256) × Bytes xs
 
 -- straight runs after one in that direction: none is empty, and neighbours differ in direction
-unfoldable pub Straight : Last → List Leg → Type 0
+unfoldable pub Straight : Option Heading → List Leg → Type 0
 Straight before [] = Unit {0}
-Straight before (l ∷ ls) = (last_is before l.heading ≡ false) × (1 ≤ l.length) × Straight (made l.heading) ls
+Straight before (l ∷ ls) = (last_is before l.heading ≡ false) × (1 ≤ l.length) × Straight (Some l.heading) ls
 
 -- some letter is not one of E, N, S, W
 pub record SomeOther (xs : List ℕ) : Type 0 where

@@ -1,16 +1,12 @@
 -- Letters to legs and legs to letters (document 02, E3): what is answered and written. Assumes nothing.
-use Rattle.std.specs.Prelude.{◌≡◌, Bool, true, false, ◌||◌, List, [], ◌∷◌, ◌++◌, ℕ, ltb, length}
+use Rattle.std.specs.Prelude.{◌≡◌, Bool, true, false, ◌||◌, List, [], ◌∷◌, ◌++◌, ℕ, ltb, length, Option, Some, None, Result, Ok, Err}
 use Rattle.mesh.specs.declared.Heading.{Heading}
-use Rattle.mesh.specs.declared.Letter.{Letter}
-use Rattle.mesh.specs.declared.Letter.TheVariants.{Hop, Other}
 use Rattle.mesh.specs.Headings.{letters, named}
 use Rattle.mesh.specs.Tests.{Test, ◌gives◌, first}
 use Rattle.mesh.specs.Numbers.{Answer, refused, returned, answer, written}
 use Rattle.mesh.specs.Maps.{some}
 use Rattle.theory_legs.specs.declared.LegRefusal.{LegRefusal}
 use Rattle.theory_legs.specs.declared.LegRefusal.TheVariants.{Room, NoLetter, CutShort, BadNumber, SameDirection, LeftOver, TooLong}
-use Rattle.theory_legs.specs.declared.Converted.{Converted}
-use Rattle.theory_legs.specs.declared.Converted.TheVariants.{Wrote, Refused}
 use Rattle.theory_legs.specs.Groups.{Found, fault, found}
 use Rattle.theory_legs.specs.Legs.{Leg, legs, hops}
 use Rattle.theory_legs.specs.Files.{file, read_file}
@@ -28,25 +24,25 @@ leg_refusal_number LeftOver = 22
 leg_refusal_number TooLong = 23
 
 -- the enum's cases as answers
-abbrev pub converted_answer : Converted → Answer
-converted_answer (Wrote n) = returned n
-converted_answer (Refused r) = refused (leg_refusal_number r)
+abbrev pub converted_answer : Result ℕ LegRefusal → Answer
+converted_answer (Ok n) = returned n
+converted_answer (Err r) = refused (leg_refusal_number r)
 
 -- the tests of what is given; then 10, what is to be written is longer than the output
 unfoldable pub refusal : List Test → List ℕ → List ℕ → ℕ
 refusal tests new out = first (tests ++ (ltb (length out) (length new) gives 10 ∷ []))
 
 -- it writes the new bytes, and returns their number
-pub record Converts (tests : List Test) (new out : List ℕ) (r : Converted) (after : List ℕ) : Type 0 where
+pub record Converts (tests : List Test) (new out : List ℕ) (r : Result ℕ LegRefusal) (after : List ℕ) : Type 0 where
   pub answers : converted_answer r ≡ answer (refusal tests new out) (length new)
   pub writes : after ≡ written (refusal tests new out) new out
 
 -- Letters to legs
 
 -- what names no hop
-unfoldable pub is_other : Letter → Bool
-is_other (Hop h) = false
-is_other Other = true
+unfoldable pub is_other : Option Heading → Bool
+is_other (Some h) = false
+is_other None = true
 
 -- a byte, at any index, that is not one of E, N, S, W
 abbrev pub no_letter : ℕ → ℕ → Bool
@@ -57,9 +53,9 @@ unfoldable pub some_other : List ℕ → Bool
 some_other xs = some no_letter 0 xs
 
 -- the hops that letters name, up to the first that names none
-unfoldable pub hop_by : Letter → List Heading → List Heading
-hop_by (Hop h) hs = h ∷ hs
-hop_by Other hs = []
+unfoldable pub hop_by : Option Heading → List Heading → List Heading
+hop_by (Some h) hs = h ∷ hs
+hop_by None hs = []
 
 unfoldable pub hops_named : List ℕ → List Heading
 hops_named [] = []
@@ -84,7 +80,7 @@ unfoldable pub file_of : List ℕ → List ℕ
 file_of xs = file (legs_of xs)
 
 -- its promise
-abbrev pub LettersToLegs : List ℕ → List ℕ → Converted → List ℕ → Type 0
+abbrev pub LettersToLegs : List ℕ → List ℕ → Result ℕ LegRefusal → List ℕ → Type 0
 LettersToLegs xs = Converts (letter_tests xs) (file_of xs)
 
 -- Legs to letters
@@ -107,5 +103,5 @@ unfoldable pub letters_of : List ℕ → List ℕ
 letters_of ys = letters (hops (legs_in (read_file ys)))
 
 -- its promise
-abbrev pub LegsToLetters : List ℕ → List ℕ → Converted → List ℕ → Type 0
+abbrev pub LegsToLetters : List ℕ → List ℕ → Result ℕ LegRefusal → List ℕ → Type 0
 LegsToLetters ys = Converts (file_tests ys) (letters_of ys)

@@ -1,7 +1,6 @@
 -- The file of legs (document 02, E3): first the number of legs, then each leg as (length - 1) x 4 plus 0 E, 1 N, 2 W, 3 S. Assumes nothing.
-use Rattle.std.specs.Prelude.{cond, List, [], ◌∷◌, ◌++◌, ℕ, zero, suc, ◌+◌, ◌-◌, ◌*◌, ◌/◌, ◌%◌, length}
-use Rattle.mesh.specs.declared.Last.{Last}
-use Rattle.mesh.specs.declared.Last.TheVariants.{None as none, Made as made}
+use Rattle.mesh.specs.declared.Heading.{Heading}
+use Rattle.std.specs.Prelude.{cond, List, [], ◌∷◌, ◌++◌, ℕ, zero, suc, ◌+◌, ◌-◌, ◌*◌, ◌/◌, ◌%◌, length, Option, Some, None}
 use Rattle.mesh.specs.Headings.{last_is, code, direction}
 use Rattle.theory_legs.specs.Groups.{number_bytes, Found, fault, found, and_then, read_number}
 use Rattle.theory_legs.specs.Legs.{Leg, leg}
@@ -31,11 +30,11 @@ leg_before l (fault k) = fault k
 leg_before l (found ls rest) = found (l ∷ ls) rest
 
 -- k legs after one in that direction; the first leg is after none: 19 and 20 at a number, 21 a leg in its forerunner's direction
-unfoldable pub read_legs : ℕ → Last → List ℕ → Found (List Leg)
+unfoldable pub read_legs : ℕ → Option Heading → List ℕ → Found (List Leg)
 read_legs zero before xs = found [] xs
 read_legs (suc k) before xs =
     and_then (read_number xs) λ n rest.
-    let others = read_legs k (made (leg_of n).heading) rest in
+    let others = read_legs k (Some (leg_of n).heading) rest in
     cond (last_is before (leg_of n).heading) (fault 21) (leg_before (leg_of n) others)
 
 -- 22 bytes left over
@@ -45,4 +44,4 @@ all_read ls (x ∷ xs) = fault 22
 
 -- the legs of a file
 unfoldable pub read_file : List ℕ → Found (List Leg)
-read_file xs = and_then (and_then (read_number xs) λ k rest. read_legs k none rest) all_read
+read_file xs = and_then (and_then (read_number xs) λ k rest. read_legs k None rest) all_read

@@ -1,4 +1,6 @@
 -- What is shown of a pick between the routes of both networks. Assumes nothing.
+use Rattle.std.specs.Prelude.{Result}
+use Rattle.mesh.specs.declared.Refusal.{Refusal}
 use mathlib.Core.Path.{◌≡◌, refl, ◌∙◌}
 use mathlib.Core.Logic.{◌↔◌, ◌≢◌, inl, inr}
 use mathlib.Core.List.{List, []}
@@ -78,7 +80,7 @@ module _ (columns rows : ℕ) (map : List ℕ) (s d : Place) where
     picked-is-served Second e = second-served (refusal_on First first) _ (refusal_on Second second) _ e
 
     -- Of the pick on both buffers, which keeps its promise, and either network:
-    module _ {r : Picked} {first' second' : List ℕ} (does : PicksRoute columns rows map s d first second r first' second') (network : Network) where
+    module _ {r : Result Picked Refusal} {first' second' : List ℕ} (does : PicksRoute columns rows map s d first second r first' second') (network : Network) where
       -- its route stands in its buffer, whichever is picked, and nothing after it is touched
       pub routes-stand : refusal_on network (buffer_of network first second) ≡ 0 →
           (take (length (hops_on network)) (buffer_of network first' second') ≡ letters (hops_on network)) ×

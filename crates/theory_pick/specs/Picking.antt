@@ -1,23 +1,23 @@
 -- A pick of the better route (document 02, E6): both networks write into a buffer each, and the part of whichever holds the shorter route is
 -- handed back. Assumes nothing.
-use Rattle.std.specs.Prelude.{◌≡◌, cond, List, ℕ, ltb, take}
+use Rattle.mesh.specs.declared.Refusal.{Refusal}
+use Rattle.std.specs.Prelude.{◌≡◌, cond, List, ℕ, ltb, take, Result, Ok, Err}
 use Rattle.mesh.specs.declared.Network.{Network}
 use Rattle.mesh.specs.declared.Network.TheVariants.{First, Second}
 use Rattle.mesh.specs.declared.Place.{Place}
 use Rattle.mesh.specs.Numbers.{number, Answer, refused, returned}
 use Rattle.mesh.specs.Routing.{route_answer, route_output}
 use Rattle.theory_pick.specs.declared.Picked.{Picked}
-use Rattle.theory_pick.specs.declared.Picked.TheVariants.{Route, Refused}
 
 -- a pick: the route of a network, by its number of hops; or none, with a refusal
 pub data Pick : Type 0 where
   route : Network → ℕ → Pick
   none : ℕ → Pick
 
--- the enum's cases as picks
-abbrev pub pick_of : Picked → Pick
-pick_of (Route network n) = route network n
-pick_of (Refused r) = none (number r)
+-- what it answers as a pick
+abbrev pub pick_of : Result Picked Refusal → Pick
+pick_of (Ok p) = route p.network p.hops
+pick_of (Err r) = none (number r)
 
 -- of what the first and the second network answer: the shorter route, the first on a tie or if only it was served; none if both refuse, with
 -- the first's refusal
@@ -48,7 +48,7 @@ lent_number (route network n) = 0
 lent_number (none k) = k
 
 -- the promise of the pick on both buffers: which route it is, and every byte is as Route leaves it
-pub record PicksRoute (columns rows : ℕ) (map : List ℕ) (s d : Place) (first second : List ℕ) (r : Picked) (first' second' : List ℕ) : Type 0 where
+pub record PicksRoute (columns rows : ℕ) (map : List ℕ) (s d : Place) (first second : List ℕ) (r : Result Picked Refusal) (first' second' : List ℕ) : Type 0 where
   pub picks : pick_of r ≡ picked columns rows map s d first second
   pub writes : (network : Network) → buffer_of network first' second' ≡ route_output network columns rows map s d (buffer_of network first second)
 

@@ -1,4 +1,5 @@
 -- Straight travel to the destination's row, in columns that permit NW and SW, and two columns west past each block on the way. Assumes nothing.
+use Rattle.std.specs.Prelude.{Option, Some}
 use mathlib.Core.Path.{◌≡◌, refl}
 use mathlib.Core.Bool.{Bool, true, false}
 use mathlib.Core.List.{List}
@@ -8,8 +9,6 @@ use native.Mathlib.Omega.{arith}
 use borrow.Author.Tests.{lt-ltb, le-leb}
 use Rattle.mesh.specs.declared.Heading.{Heading}
 use Rattle.mesh.specs.declared.Heading.TheVariants.{West as W}
-use Rattle.mesh.specs.declared.Last.{Last}
-use Rattle.mesh.specs.declared.Last.TheVariants.{Made as made}
 use Rattle.mesh.specs.Headings.{row_after, opposite}
 use Rattle.mesh.specs.Blocks.{Block}
 use Rattle.mesh.specs.Rules.{Trip, hop}
@@ -37,8 +36,8 @@ before-by {r = r} {b = b} (south e) i out = lt-ltb r b.row (le-by-contradiction 
 
 module _ {t : Trip} {bs : List Block} (course : Course t bs) where
   -- into the destination's row
-  land-toward : {a s : Heading} {g x r c n : ℕ} → To t c x s → x ≤ g → Permits t c (made (opposite a)) s →
-      Approaching t bs a 0 g r c n → Mode t bs n r c (made (opposite a))
+  land-toward : {a s : Heading} {g x r c n : ℕ} → To t c x s → x ≤ g → Permits t c (Some (opposite a)) s →
+      Approaching t bs a 0 g r c n → Mode t bs n r c (Some (opposite a))
   land-toward {a} {s} {r = r} {c = c} to h turned m =
       let less = rest-detour t s a r c c bs in
       in_row (record {
@@ -50,15 +49,15 @@ module _ {t : Trip} {bs : List Block} (course : Course t bs) where
         falls = omega arith;
       })
 
-  land-row : {a : Heading} {g r c n : ℕ} → Dec (t.C ≤ c) → Approaching t bs a 0 g r c n → Mode t bs n r c (made (opposite a))
+  land-row : {a : Heading} {g r c n : ℕ} → Dec (t.C ≤ c) → Approaching t bs a 0 g r c n → Mode t bs n r c (Some (opposite a))
   land-row {c = c} (yes h) m = land-toward {x = c - t.C} (west (omega arith)) (omega arith) (turn-out t c (upright-opposite (upright m.off)) to-west m.turn) m
   land-row {c = c} (no h) m = land-toward {x = t.C - c} (east (omega arith)) (omega arith) (turn-east t c (upright-opposite (upright m.off))) m
 
-  land : {a : Heading} {g r c n : ℕ} (k : ℕ) → Approaching t bs a k g r c n → Mode t bs n r c (made (opposite a))
+  land : {a : Heading} {g r c n : ℕ} (k : ℕ) → Approaching t bs a k g r c n → Mode t bs n r c (Some (opposite a))
   land zero m = land-row (dec_le _ _) m
   land (suc k) m = approaching-on m
 
-  go_on : {a : Heading} {l : Last} {k g r c n : ℕ} → Approaching t bs a (suc k) g r c (suc n) → Permits t c l (opposite a) →
+  go_on : {a : Heading} {l : Option Heading} {k g r c n : ℕ} → Approaching t bs a (suc k) g r c (suc n) → Permits t c l (opposite a) →
       t.bad (row_after (opposite a) r) c ≡ false → Next t bs n r c l (opposite a)
   go_on {k = k} {c = c} m to e =
       let less = detour-in c bs m.off in
@@ -66,7 +65,7 @@ module _ {t : Trip} {bs : List Block} (course : Course t bs) where
       (land k (record { off = off-in m.off; free = e; turn = m.turn; gap-east = m.gap-east; gap-west = m.gap-west; falls = omega arith }))
 
   -- two columns west to pass the block over or under the packet
-  go-west : {a : Heading} {l : Last} {k g r c n : ℕ} → Approaching t bs a (suc k) g r c (suc n) → Permits t c l W →
+  go-west : {a : Heading} {l : Option Heading} {k g r c n : ℕ} → Approaching t bs a (suc k) g r c (suc n) → Permits t c l W →
       t.bad (row_after (opposite a) r) c ≡ true →
       Next t bs n r c l W
   go-west {a} {l} {k} {g} {r} {c} {n} m to e =
@@ -89,7 +88,7 @@ module _ {t : Trip} {bs : List Block} (course : Course t bs) where
         falls = rw two (omega arith);
       }))
 
-  pub approaching-step : {a : Heading} {l : Last} {k g r c n : ℕ} → Across l W → Approaching t bs a (suc k) g r c (suc n) →
+  pub approaching-step : {a : Heading} {l : Option Heading} {k g r c n : ℕ} → Across l W → Approaching t bs a (suc k) g r c (suc n) →
       Next t bs n r c l (hop t r c l)
   approaching-step {a} {l} {r = r} {c = c} {n = n} x m =
       by-across (Next t bs n r c l) c x m.off
@@ -97,13 +96,13 @@ module _ {t : Trip} {bs : List Block} (course : Course t bs) where
       (λ h. go-west m (across-on t c x) (bad-bit _ _ m.turn h))
 
   pub approaching-on-step : {a : Heading} {k g r c n : ℕ} → Approaching t bs a (suc k) g r c (suc n) →
-      Next t bs n r c (made (opposite a)) (hop t r c (made (opposite a)))
+      Next t bs n r c (Some (opposite a)) (hop t r c (Some (opposite a)))
   approaching-on-step {a} {r = r} {c = c} {n = n} m =
-      by-nearing (Next t bs n r c (made (opposite a))) c m.off
+      by-nearing (Next t bs n r c (Some (opposite a))) c m.off
       (go-west m (turn-out t c (upright-opposite (upright m.off)) to-west m.turn))
       (go_on m (straight t c (opposite a)))
 
-  pub shifting-step : {a : Heading} {l : Last} {k g r c n : ℕ} → Across l W → Shifting t bs a k g r c (suc n) → Next t bs n r c l (hop t r c l)
+  pub shifting-step : {a : Heading} {l : Option Heading} {k g r c n : ℕ} → Across l W → Shifting t bs a k g r c (suc n) → Next t bs n r c l (hop t r c l)
   shifting-step {a} {l} {g = g} {r = r} {c = c} {n = n} x m =
       let z = alternate-back course to-west c m.one in
       by-across (Next t bs n r c l) c x m.off (λ e f. absurd (omega arith))

@@ -1,4 +1,6 @@
 -- Each hop keeps a mode and lowers its number, so a walk arrives. Assumes nothing.
+use Rattle.std.specs.Prelude.{Option}
+use Rattle.mesh.specs.declared.Heading.{Heading}
 use mathlib.Core.Path.{◌≡◌}
 use mathlib.Core.Bool.{true, false}
 use mathlib.Core.List.{List}
@@ -6,7 +8,6 @@ use Prim.Native.Nat.{ℕ, zero, suc, ◌≤◌, ◌<◌}
 use native.Mathlib.Omega.{arith}
 use borrow.Author.Tests.{eq-eqb}
 use lib.ListN.{length}
-use Rattle.mesh.specs.declared.Last.{Last}
 use Rattle.mesh.specs.Blocks.{Block}
 use Rattle.mesh.specs.Rules.{Trip, at_destination, hop}
 use Rattle.mesh.specs.Hops.{At, moved}
@@ -25,7 +26,7 @@ unfolding arrived at_destination
 not_there t p e f g = true-false {b = arrived t p} (rw (eq-eqb _ _ f, eq-eqb _ _ g)) e
 
 module _ {t : Trip} {bs : List Block} (course : Course t bs) where
-  step : {n r c : ℕ} {l : Last} → (r ≡ t.R → c ≡ t.C → ⊥) → Mode t bs (suc n) r c l → Next t bs n r c l (hop t r c l)
+  step : {n r c : ℕ} {l : Option Heading} → (r ≡ t.R → c ≡ t.C → ⊥) → Mode t bs (suc n) r c l → Next t bs n r c l (hop t r c l)
   step new (approaching x m) = approaching-step course x m
   step new (approaching-on m) = approaching-on-step course m
   step new (shifting x m) = shifting-step course x m

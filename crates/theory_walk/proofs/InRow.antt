@@ -1,4 +1,5 @@
 -- Straight travel in the destination's row, until a block stops the packet. Assumes nothing.
+use Rattle.std.specs.Prelude.{Option, Some}
 use mathlib.Core.Path.{◌≡◌}
 use mathlib.Core.Bool.{true, false}
 use mathlib.Core.List.{List}
@@ -6,8 +7,6 @@ use Prim.Native.Nat.{ℕ, suc, ◌+◌, ◌-◌, ◌≤◌, ◌<◌, max}
 use native.Mathlib.Decide.{dec_le}
 use native.Mathlib.Omega.{arith}
 use Rattle.mesh.specs.declared.Heading.{Heading}
-use Rattle.mesh.specs.declared.Last.{Last}
-use Rattle.mesh.specs.declared.Last.TheVariants.{Made as made}
 use Rattle.mesh.specs.Headings.{column_after}
 use Rattle.mesh.specs.Blocks.{Block}
 use Rattle.mesh.specs.Rules.{Trip, hop}
@@ -80,19 +79,19 @@ module _ {t : Trip} {bs : List Block} (course : Course t bs) where
       }
 
   -- stopped in an own column, or by the next node
-  ready-now : {s : Heading} {l : Last} {x r c n i j : ℕ} → Dec (not_own t s c ≤ 0) → InRow t bs s x r c n l →
+  ready-now : {s : Heading} {l : Option Heading} {x r c n i j : ℕ} → Dec (not_own t s c ≤ 0) → InRow t bs s x r c n l →
       1 ≤ i → i + not_own t s c ≤ 2 → Sight c i j s → t.bad r j ≡ true → Ready t c l s
   ready-now {l = l} {c = c} (yes h) m o to v e = ready t c l (level m.to) (omega arith) m.turn
   ready-now {i = i} {j = j} (no h) m o to v e = let one : i ≡ 1 = omega arith in m.stop j (rw one at v) e
 
   -- after a hop in the row: in an own column, or the next node was in sight
   ready-next : {s : Heading} {x r c : ℕ} → Dec (not_own t s (column_after s c) ≤ 0) → To t c x s → 1 ≤ x → Open t r c s →
-      (j : ℕ) → Sight (column_after s c) 1 j s → t.bad r j ≡ true → Ready t (column_after s c) (made s) s
-  ready-next {s} {c = c} (yes h) to one p j v e = ready t _ (made s) (level to) (omega arith) (straight t (column_after s c) s)
+      (j : ℕ) → Sight (column_after s c) 1 j s → t.bad r j ≡ true → Ready t (column_after s c) (Some s) s
+  ready-next {s} {c = c} (yes h) to one p j v e = ready t _ (Some s) (level to) (omega arith) (straight t (column_after s c) s)
   ready-next (no h) to one p j v e =
       let z = alternate-next course to one in true-false e (p.free 2 j (omega arith) (omega arith) (sight-two to one v))
 
-  pub in-row-step : {s : Heading} {l : Last} {x r c n : ℕ} → 1 ≤ x → InRow t bs s x r c (suc n) l → Next t bs n r c l (hop t r c l)
+  pub in-row-step : {s : Heading} {l : Option Heading} {x r c n : ℕ} → 1 ≤ x → InRow t bs s x r c (suc n) l → Next t bs n r c l (hop t r c l)
   in-row-step {s} {l} {x} {r} {c} {n} one m =
       let v = level m.to in
       by-in_row (Next t bs n r c l) l m.here m.to one

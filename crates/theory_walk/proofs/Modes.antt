@@ -1,4 +1,5 @@
 -- The modes of a walk, each with the number that falls. Assumes nothing.
+use Rattle.std.specs.Prelude.{Option, Some}
 use mathlib.Core.Path.{◌≡◌}
 use mathlib.Core.Bool.{true, false}
 use mathlib.Core.List.{List}
@@ -6,8 +7,6 @@ use Prim.Native.Nat.{ℕ, suc, ◌+◌, ◌-◌, ◌*◌, ◌≤◌, ◌<◌}
 use native.Mathlib.Omega.{arith}
 use Rattle.mesh.specs.declared.Heading.{Heading}
 use Rattle.mesh.specs.declared.Heading.TheVariants.{West as W}
-use Rattle.mesh.specs.declared.Last.{Last}
-use Rattle.mesh.specs.declared.Last.TheVariants.{Made as made}
 use Rattle.mesh.specs.Headings.{opposite}
 use Rattle.mesh.specs.Blocks.{Block}
 use Rattle.mesh.specs.Rules.{Trip}
@@ -40,7 +39,7 @@ module _ (t : Trip) (bs : List Block) where
     pub falls : g + suc k + sum (detour t a r (c - 1)) bs + 1 < n
 
   -- straight travel in the destination's row, x columns to the s
-  pub record InRow (s : Heading) (x r c n : ℕ) (l : Last) : Type 0 where
+  pub record InRow (s : Heading) (x r c n : ℕ) (l : Option Heading) : Type 0 where
     pub here : r ≡ t.R
     pub to : To t c x s
     pub free : t.bad r c ≡ false
@@ -56,7 +55,7 @@ module _ (t : Trip) (bs : List Block) where
     pub to : To t c x s
     pub from : near t s b + 1 ≤ x
     pub till : x + not_own t s c ≤ near t s b + 2
-    pub turn : Permits t c (made a) s
+    pub turn : Permits t c (Some a) s
     pub falls : x + 2 * reach t a b + 2 + sum (rest t s (far_column s b)) bs < n + suc k
 
   -- over or under it
@@ -80,20 +79,20 @@ module _ (t : Trip) (bs : List Block) where
     pub falls : x + k + sum (rest t s (far_column s b)) bs < n
 
   -- the packet's mode, by its last hop
-  pub data Mode (n r c : ℕ) : Last → Type 0 where
-    approaching : {a : Heading} {k g : ℕ} {l : Last} → Across l W → Approaching a (suc k) g r c n → Mode n r c l
-    approaching-on : {a : Heading} {k g : ℕ} → Approaching a (suc k) g r c n → Mode n r c (made (opposite a))
-    shifting : {a : Heading} {k g : ℕ} {l : Last} → Across l W → Shifting a k g r c n → Mode n r c l
-    in_row : {s : Heading} {x : ℕ} {l : Last} → InRow s x r c n l → Mode n r c l
-    leaving : {b : Block} {a s : Heading} {k x : ℕ} → Leaving b a k s x r c n → Mode n r c (made a)
-    passing : {b : Block} {a s : Heading} {x : ℕ} → Passing b a s x r c n → Mode n r c (made s)
-    returning : {b : Block} {a s : Heading} {k x : ℕ} → Returning b a (suc k) s x r c n → Mode n r c (made (opposite a))
+  pub data Mode (n r c : ℕ) : Option Heading → Type 0 where
+    approaching : {a : Heading} {k g : ℕ} {l : Option Heading} → Across l W → Approaching a (suc k) g r c n → Mode n r c l
+    approaching-on : {a : Heading} {k g : ℕ} → Approaching a (suc k) g r c n → Mode n r c (Some (opposite a))
+    shifting : {a : Heading} {k g : ℕ} {l : Option Heading} → Across l W → Shifting a k g r c n → Mode n r c l
+    in_row : {s : Heading} {x : ℕ} {l : Option Heading} → InRow s x r c n l → Mode n r c l
+    leaving : {b : Block} {a s : Heading} {k x : ℕ} → Leaving b a k s x r c n → Mode n r c (Some a)
+    passing : {b : Block} {a s : Heading} {x : ℕ} → Passing b a s x r c n → Mode n r c (Some s)
+    returning : {b : Block} {a s : Heading} {k x : ℕ} → Returning b a (suc k) s x r c n → Mode n r c (Some (opposite a))
 
   -- a lawful hop after which the number is n
-  abbrev pub Next : ℕ → ℕ → ℕ → Last → Heading → Type 0
+  abbrev pub Next : ℕ → ℕ → ℕ → Option Heading → Heading → Type 0
   Next n r c l h = Goes t (Mode n) r c l h
 
-pub never-zero : {t : Trip} {bs : List Block} {r c : ℕ} {l : Last} → Mode t bs 0 r c l → ⊥
+pub never-zero : {t : Trip} {bs : List Block} {r c : ℕ} {l : Option Heading} → Mode t bs 0 r c l → ⊥
 never-zero (approaching x m) = omega arith
 never-zero (approaching-on m) = omega arith
 never-zero (shifting x m) = omega arith

@@ -1,11 +1,11 @@
 -- Travel round a block that crosses the destination's row: away from the row, over or under the block, back to the row. Assumes nothing.
+use Rattle.std.specs.Prelude.{Some}
 use mathlib.Core.Path.{◌≡◌, refl}
 use mathlib.Core.Bool.{Bool, true, false}
 use mathlib.Core.List.{List}
 use Prim.Native.Nat.{ℕ, zero, suc, ◌+◌, ◌-◌, ◌≤◌}
 use native.Mathlib.Omega.{arith}
 use Rattle.mesh.specs.declared.Heading.{Heading}
-use Rattle.mesh.specs.declared.Last.TheVariants.{Made as made}
 use Rattle.mesh.specs.Headings.{row_after, opposite}
 use Rattle.mesh.specs.Blocks.{Block}
 use Rattle.mesh.specs.Rules.{Trip, hop}
@@ -21,7 +21,7 @@ use Rattle.theory_walk.proofs.Weights.{rest-on}
 use Rattle.theory_walk.proofs.Modes.{Leaving, Passing, Returning, Mode, in_row, leaving, passing, returning, Next}
 
 module _ {t : Trip} {bs : List Block} (course : Course t bs) where
-  land : {b : Block} {a s : Heading} {x r c n : ℕ} (k : ℕ) → Returning t bs b a k s x r c n → Mode t bs n r c (made (opposite a))
+  land : {b : Block} {a s : Heading} {x r c n : ℕ} (k : ℕ) → Returning t bs b a k s x r c n → Mode t bs n r c (Some (opposite a))
   land {c = c} zero m =
       let q = m.crosses in
       let v = upright-opposite (upright m.off) in
@@ -39,12 +39,12 @@ module _ {t : Trip} {bs : List Block} (course : Course t bs) where
   land (suc k) m = returning m
 
   pub returning-step : {b : Block} {a s : Heading} {k x r c n : ℕ} → Returning t bs b a (suc k) s x r c (suc n) →
-      Next t bs n r c (made (opposite a)) (hop t r c (made (opposite a)))
+      Next t bs n r c (Some (opposite a)) (hop t r c (Some (opposite a)))
   returning-step {a = a} {k = k} {r = r} {c = c} {n = n} m =
       let q = m.crosses in
       let o = off-in m.off in
       let order = far-near (level m.to) q in
-      by-nearing (Next t bs n r c (made (opposite a))) c m.off
+      by-nearing (Next t bs n r c (Some (opposite a))) c m.off
       (λ e. true-false e (free-close course q o m.to (omega arith) (omega arith)))
       (λ e. goes_in course m.off e (straight t c (opposite a))
       (land k (record { crosses = q; off = o; rows = omega arith; to = m.to; turn = m.turn; from = m.from; till = m.till; falls = omega arith })))
@@ -62,12 +62,12 @@ module _ {t : Trip} {bs : List Block} (course : Course t bs) where
       t.bad (row_after (opposite a) r) c ≡ false → x + 1 ≤ far t s b
   past m h e = le-by-contradiction (λ f. true-false (bad-inside course m.crosses (off-in m.off) m.to (omega arith)) e)
 
-  pub passing_step : {b : Block} {a s : Heading} {x r c n : ℕ} → Passing t bs b a s x r c (suc n) → Next t bs n r c (made s) (hop t r c (made s))
+  pub passing_step : {b : Block} {a s : Heading} {x r c n : ℕ} → Passing t bs b a s x r c (suc n) → Next t bs n r c (Some s) (hop t r c (Some s))
   passing_step {b} {a} {s} {x} {r} {c} {n} m =
       let q = m.crosses in
       let v = level m.to in
       let order = far-near v q in
-      by-across (Next t bs n r c (made s)) c (went v) m.off
+      by-across (Next t bs n r c (Some s)) c (went v) m.off
       (λ h e. goes_in course m.off e (turn_in t c v (upright-opposite (upright m.off)) h)
       (land (reach t a b) (record {
         crosses = q;
@@ -88,13 +88,13 @@ module _ {t : Trip} {bs : List Block} (course : Course t bs) where
       goes-side course m.to one (free-close course q m.off to (omega arith) (omega arith)) (straight t c s)
       (passing (record { crosses = q; off = m.off; to = to; from = omega arith; till = omega arith; falls = omega arith })))
 
-  pub leaving-step : {b : Block} {a s : Heading} {k x r c n : ℕ} → Leaving t bs b a k s x r c (suc n) → Next t bs n r c (made a) (hop t r c (made a))
+  pub leaving-step : {b : Block} {a s : Heading} {k x r c n : ℕ} → Leaving t bs b a k s x r c (suc n) → Next t bs n r c (Some a) (hop t r c (Some a))
   leaving-step {b} {a} {s} {k} {x} {r} {c} {n} m =
       let q = m.crosses in
       let v = level m.to in
       let order = far-near v q in
       let one : 1 ≤ x = omega arith in
-      by-leaving (Next t bs n r c (made a)) m.off m.to one
+      by-leaving (Next t bs n r c (Some a)) m.off m.to one
       (λ p.
       let i = inside-if-bad course q m.off (sight-to m.to p.sight (omega arith)) (omega arith) p.bad in
       let o = off-out q m.off i.rows in

@@ -1,4 +1,5 @@
 -- The hop rules by what is to go: for each rule, what holds of either hop holds of the hop by the rules. Assumes nothing.
+use Rattle.std.specs.Prelude.{Option, Some, None}
 use mathlib.Core.Path.{◌≡◌, refl, ◌∙◌, sym}
 use mathlib.Core.Bool.{Bool, true, false, not, cond, ◌&&◌, ◌||◌}
 use Prim.Native.Nat.{ℕ, zero, suc, ◌+◌, ◌-◌, ◌≤◌}
@@ -7,8 +8,6 @@ use borrow.Author.Tests.{lt-ltb, le-ltb, le-leb, leb-true, eq-eqb, ne_eqb}
 use lib.Dec.{leb}
 use Rattle.mesh.specs.declared.Heading.{Heading}
 use Rattle.mesh.specs.declared.Heading.TheVariants.{East as E, North as N, South as S, West as W}
-use Rattle.mesh.specs.declared.Last.{Last}
-use Rattle.mesh.specs.declared.Last.TheVariants.{None as none, Made as made}
 use Rattle.mesh.specs.Headings.{row_after, opposite}
 use Rattle.mesh.specs.Nodes.{ahead}
 use Rattle.mesh.specs.Rules.{Trip, blocked, side, toward, own, stopped, again, in_row, leaving, across, nearing, other_row, hop}
@@ -32,12 +31,12 @@ look-by P false true false f g h = h refl (λ e. refl)
 look-by P false false q f g h = h refl (λ e. absurd (omega arith))
 
 -- the last hop and the side by which rules 4 and 6 go on: no last hop counts as W
-pub data Across : Last → Heading → Type 0 where
-  first : Across none W
-  went-east : Across (made E) E
-  went-west : Across (made W) W
+pub data Across : Option Heading → Heading → Type 0 where
+  first : Across None W
+  went-east : Across (Some E) E
+  went-west : Across (Some W) W
 
-pub went : {s : Heading} → Level s → Across (made s) s
+pub went : {s : Heading} → Level s → Across (Some s) s
 went to-east = went-east
 went to-west = went-west
 
@@ -92,21 +91,21 @@ module _ {t : Trip} where
       (λ e k. g (open_at r c e k)))
 
   -- rule 2
-  pub by-in_row : (P : Heading → Type 0) {s : Heading} {r c x : ℕ} (l : Last) → r ≡ t.R → To t c x s → 1 ≤ x →
+  pub by-in_row : (P : Heading → Type 0) {s : Heading} {r c x : ℕ} (l : Option Heading) → r ≡ t.R → To t c x s → 1 ≤ x →
       (Stop t r c s → P (again l)) → (Open t r c s → P s) → P (hop t r c l)
   unfolding hop in_row
   by-in_row P {r = r} l e to x f g = rw (eq-eqb r t.R e) (by-stopped P r to x f g)
 
-  other_row_lem : {a : Heading} {r k : ℕ} (c : ℕ) (l : Last) → Off t r (suc k) a → hop t r c l ≡ other_row t r c l
+  other_row_lem : {a : Heading} {r k : ℕ} (c : ℕ) (l : Option Heading) → Off t r (suc k) a → hop t r c l ≡ other_row t r c l
   unfolding hop
   other_row_lem {r = r} c l o = rw (ne_eqb r t.R (off-other o))
 
   -- rule 3
   pub by-leaving : (P : Heading → Type 0) {s a : Heading} {r c k x : ℕ} → Off t r (suc k) a → To t c x s → 1 ≤ x →
-      (Stop t r c s → P a) → (Open t r c s → P s) → P (hop t r c (made a))
+      (Stop t r c s → P a) → (Open t r c s → P s) → P (hop t r c (Some a))
   unfolding other_row leaving
-  by-leaving P {r = r} {c = c} (north e) to x f g = rw (other_row_lem c (made N) (north e), le-ltb r t.R (omega arith)) (by-stopped P r to x f g)
-  by-leaving P {r = r} {c = c} (south e) to x f g = rw (other_row_lem c (made S) (south e), lt-ltb r t.R (omega arith)) (by-stopped P r to x f g)
+  by-leaving P {r = r} {c = c} (north e) to x f g = rw (other_row_lem c (Some N) (north e), le-ltb r t.R (omega arith)) (by-stopped P r to x f g)
+  by-leaving P {r = r} {c = c} (south e) to x f g = rw (other_row_lem c (Some S) (south e), lt-ltb r t.R (omega arith)) (by-stopped P r to x f g)
 
   -- the node next toward the destination's row
   toward-is : {a : Heading} {r k : ℕ} → Off t r (suc k) a → toward t r ≡ opposite a
@@ -126,7 +125,7 @@ module _ {t : Trip} where
   unfolding across not_own
   across-by P {s} {a} {r} c o f g = rw (toward-is o, next-in c o) (turn_by P (own t s c) (t.bad (row_after (opposite a) r) c) f g)
 
-  pub by-across : (P : Heading → Type 0) {l : Last} {s a : Heading} {r k : ℕ} (c : ℕ) → Across l s → Off t r (suc k) a →
+  pub by-across : (P : Heading → Type 0) {l : Option Heading} {s a : Heading} {r k : ℕ} (c : ℕ) → Across l s → Off t r (suc k) a →
       (not_own t s c ≡ 0 → t.bad (row_after (opposite a) r) c ≡ false → P (opposite a)) →
       (1 ≤ not_own t s c + bit (t.bad (row_after (opposite a) r) c) → P s) → P (hop t r c l)
   unfolding other_row
@@ -135,12 +134,12 @@ module _ {t : Trip} where
   by-across P {l} c went-west o f g = rw (other_row_lem c l o) (across-by P c o f g)
 
   -- rule 5
-  nearing-is : {a : Heading} {r k : ℕ} (c : ℕ) → Off t r (suc k) a → hop t r c (made (opposite a)) ≡ nearing t r c (opposite a)
+  nearing-is : {a : Heading} {r k : ℕ} (c : ℕ) → Off t r (suc k) a → hop t r c (Some (opposite a)) ≡ nearing t r c (opposite a)
   unfolding other_row opposite
-  nearing-is {r = r} c (north e) = rw (other_row_lem c (made S) (north e), le-ltb r t.R (omega arith))
-  nearing-is {r = r} c (south e) = rw (other_row_lem c (made N) (south e), lt-ltb r t.R (omega arith))
+  nearing-is {r = r} c (north e) = rw (other_row_lem c (Some S) (north e), le-ltb r t.R (omega arith))
+  nearing-is {r = r} c (south e) = rw (other_row_lem c (Some N) (south e), lt-ltb r t.R (omega arith))
 
   pub by-nearing : (P : Heading → Type 0) {a : Heading} {r k : ℕ} (c : ℕ) → Off t r (suc k) a →
-      (t.bad (row_after (opposite a) r) c ≡ true → P W) → (t.bad (row_after (opposite a) r) c ≡ false → P (opposite a)) → P (hop t r c (made (opposite a)))
+      (t.bad (row_after (opposite a) r) c ≡ true → P W) → (t.bad (row_after (opposite a) r) c ≡ false → P (opposite a)) → P (hop t r c (Some (opposite a)))
   unfolding nearing
   by-nearing P {a} {r} c o f g = rw (nearing-is c o, next-in c o) (cond-by P (t.bad (row_after (opposite a) r) c) f g)

@@ -1,4 +1,6 @@
 -- From a source that is shut in, or meets the west edge, some hop by the rules is unlawful. Assumes nothing.
+use Rattle.std.specs.Prelude.{Option, Some, None}
+use Rattle.mesh.specs.declared.Heading.{Heading}
 use mathlib.Core.Path.{◌≡◌}
 use mathlib.Core.Bool.{true, false, not, and-false}
 use mathlib.Core.Logic.{◌⊎◌, inl, inr}
@@ -8,8 +10,6 @@ use native.Mathlib.Omega.{arith}
 use borrow.Author.Tests.{ne_eqb, eqb-false, ltb-true, not-true}
 use lib.Dec.{eqb, leb, ltb}
 use Rattle.mesh.specs.declared.Heading.TheVariants.{North as N, West as W}
-use Rattle.mesh.specs.declared.Last.{Last}
-use Rattle.mesh.specs.declared.Last.TheVariants.{None as none, Made as made}
 use Rattle.mesh.specs.Headings.{row_after, column_after}
 use Rattle.mesh.specs.Nodes.{ahead}
 use Rattle.mesh.specs.Blocks.{Block}
@@ -29,15 +29,15 @@ use Rattle.theory_walk.proofs.InRow.{met_by}
 use Rattle.theory_walk.proofs.Walks.{FailsBy, fails_by}
 
 module _ (t : Trip) (r c : ℕ) where
-  other-column : (l : Last) → (c ≡ t.C → ⊥) → arrived t (state r c l) ≡ false
+  other-column : (l : Option Heading) → (c ≡ t.C → ⊥) → arrived t (state r c l) ≡ false
   unfolding arrived at_destination
   other-column l h = rw (ne_eqb c t.C h, and-false)
 
-  other_row : (l : Last) → (r ≡ t.R → ⊥) → arrived t (state r c l) ≡ false
+  other_row : (l : Option Heading) → (r ≡ t.R → ⊥) → arrived t (state r c l) ≡ false
   unfolding arrived at_destination
   other_row l h = rw (ne_eqb r t.R h)
 
-  turn-barred : not_own t W c ≡ 1 → lawful t (state r c (made N)) W ≡ false
+  turn-barred : not_own t W c ≡ 1 → lawful t (state r c (Some N)) W ≡ false
   unfolding lawful
   turn-barred e = rw (no-turn-west t c e, and-false, and-false)
 
@@ -58,23 +58,23 @@ module _ (t : Trip) (r c : ℕ) where
   unfolding hop_at
   west-fails ne e f =
       let a = west-forbidden e in
-      fails_by t (other_row none ne) (by-across (FailsBy t (fresh (place r c))) c first (off-by r ne).off (λ x y. absurd (omega arith)) (λ x. inl f))
+      fails_by t (other_row None ne) (by-across (FailsBy t (fresh (place r c))) c first (off-by r ne).off (λ x y. absurd (omega arith)) (λ x. inl f))
 
 module _ {t : Trip} {bs : List Block} (course : Course t bs) where
   -- rule 3 sends it north beside the block, or west in a column where NW is forbidden
   north-by : {b : Block} {k r c x : ℕ} → Crosses t bs W b → Off t r (suc k) N → k ≤ reach t N b → To t c x W → x ≡ near t W b + 1 → not_own t W c ≡ 1 →
-      (suc k ≤ reach t N b → Fails t (state (r + 1) c (made N))) → Fails t (state r c (made N))
+      (suc k ≤ reach t N b → Fails t (state (r + 1) c (Some N))) → Fails t (state r c (Some N))
   unfolding hop_at moved row_after column_after
   north-by {b} {k} {r} {c} {x} q o h to f a next =
       let order = far-near to-west q in
-      fails_by t (other-column t r c (made N) (to-other to (omega arith)))
-      (by-leaving (FailsBy t (state r c (made N))) o to (omega arith)
+      fails_by t (other-column t r c (Some N) (to-other to (omega arith)))
+      (by-leaving (FailsBy t (state r c (Some N))) o to (omega arith)
       (λ p. inr (next (inside-if-bad course q o (sight-to to p.sight (omega arith)) (omega arith) p.bad).rows))
       (λ p. inl (turn-barred t r c a)))
 
   north-fails : {b : Block} {k r c x : ℕ} (m : ℕ) → Crosses t bs W b → Off t r (suc k) N → k + m ≡ reach t N b → To t c x W →
       x ≡ near t W b + 1 → not_own t W c ≡ 1 →
-      Fails t (state r c (made N))
+      Fails t (state r c (Some N))
   unfolding row_after
   north-fails {b = b} {k = k} {r = r} {c = c} {x = x} zero q o e to f a = north-by q o (omega arith) to f a (λ h. absurd (omega arith))
   north-fails {b = b} {k = k} {r = r} {c = c} {x = x} (suc m) q o e to f a = north-by q o (omega arith) to f a (λ h. north-fails {b = b} {k = suc k} {r = r + 1} {c = c} {x = x} m q (off-out q o h) (omega arith) to f a)
@@ -89,8 +89,8 @@ module _ {t : Trip} {bs : List Block} (course : Course t bs) where
       let g = course.obstacles.in-block r (c - 1) b in
       let v : Sight c 1 (c - 1) W = left (omega arith) in
       let m = met_by course g.listed e g.within to (omega arith) free (omega arith) v in
-      fails_by t (other-column t r c none (omega arith))
-      (by-in_row (FailsBy t (fresh (place r c))) none e to (omega arith)
+      fails_by t (other-column t r c None (omega arith))
+      (by-in_row (FailsBy t (fresh (place r c))) None e to (omega arith)
       (λ p. inr (north-fails (reach t N g.block) m.crosses (off-out m.crosses (here-off e up) (omega arith)) (omega arith) to (omega arith) a))
       (λ p. true-false b (p.free 1 (c - 1) (omega arith) (omega arith) v)))
 

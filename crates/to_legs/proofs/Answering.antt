@@ -1,4 +1,5 @@
 -- What is found of the letters is what the operation answers. Assumes nothing.
+use Rattle.std.specs.Prelude.{Ok, Err}
 use mathlib.Core.Path.{◌≡◌, ◌∙◌}
 use mathlib.Core.Bool.{true, false}
 use mathlib.Core.List.{List, [], ◌∷◌}
@@ -10,7 +11,6 @@ use Rattle.mesh.specs.Tests.{first}
 use Rattle.buffers.specs.Over.{over}
 use Rattle.buffers.proofs.Over.{over-all}
 use Rattle.theory_legs.specs.declared.LegRefusal.TheVariants.{Room, NoLetter, TooLong}
-use Rattle.theory_legs.specs.declared.Converted.TheVariants.{Wrote, Refused}
 use Rattle.theory_legs.specs.Groups.{number_bytes}
 use Rattle.theory_legs.specs.Legs.{Leg}
 use Rattle.theory_legs.specs.Files.{leg_number, leg_bytes, file}
@@ -31,22 +31,22 @@ pub size_small : {xs : List ℕ} {m : Measured} → Measures xs m → m.legs ≤
 size_small {xs} {m} t few s = omega (arith, bytes-few (legs_of xs), t.counts, t.sizes, size_few m.legs)
 
 module _ (xs out : List ℕ) where
-  pub answers-other : some_other xs ≡ true → LettersToLegs xs out (Refused NoLetter) out
+  pub answers-other : some_other xs ≡ true → LettersToLegs xs out (Err NoLetter) out
   unfolding refusal letter_tests first
   answers-other e = refuses-as NoLetter (rw e)
 
   module _ (no_other : some_other xs ≡ false) where
-    too_long_lem : too_long (legs_of xs) ≡ true → LettersToLegs xs out (Refused TooLong) out
+    too_long_lem : too_long (legs_of xs) ≡ true → LettersToLegs xs out (Err TooLong) out
     unfolding refusal letter_tests first
     too_long_lem e = refuses-as TooLong (rw (no_other, e))
 
     module _ {m : Measured} (t : Measures xs m) where
-      pub answers-long : m.long ≡ true → LettersToLegs xs out (Refused TooLong) out
+      pub answers-long : m.long ≡ true → LettersToLegs xs out (Err TooLong) out
       unfolding too_long
       answers-long e = too_long_lem (rw (t.longs, e))
 
       module _ (short : m.long ≡ false) where
-        pub answers-many : 65535 < m.legs → LettersToLegs xs out (Refused TooLong) out
+        pub answers-many : 65535 < m.legs → LettersToLegs xs out (Err TooLong) out
         unfolding too_long
         answers-many h = too_long_lem (rw (t.longs, short, t.counts) (lt-ltb 65535 m.legs h))
 
@@ -59,13 +59,13 @@ module _ (xs out : List ℕ) where
           unfolding too_long
           fits = rw (t.longs, short, t.counts) (le-ltb 65535 m.legs few)
 
-          pub answers-room : length out < size + m.bytes → LettersToLegs xs out (Refused Room) out
+          pub answers-room : length out < size + m.bytes → LettersToLegs xs out (Err Room) out
           answers-room = refuses-room (letters-numbered xs) (fits-accepted xs no_other fits) sized
 
           module _ (room : size + m.bytes ≤ length out) where
             pub file-writable : FileWritable xs m.legs out
             file-writable = record { no_other = no_other; fits = fits; counted = t.counts; room = rw sized room }
 
-            pub answers-wrote : {after : List ℕ} → after ≡ over out 0 (file_of xs) → LettersToLegs xs out (Wrote (size + m.bytes)) after
+            pub answers-wrote : {after : List ℕ} → after ≡ over out 0 (file_of xs) → LettersToLegs xs out (Ok (size + m.bytes)) after
             answers-wrote e =
                 wrote_as (letters-numbered xs) (fits-accepted xs no_other fits) sized room (e ∙ over-all out (file_of xs) (rw sized room))

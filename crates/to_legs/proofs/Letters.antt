@@ -1,4 +1,5 @@
 -- A run of equal letters is a leg. Assumes nothing.
+use Rattle.std.specs.Prelude.{Some, None}
 use mathlib.Core.Path.{◌≡◌, refl, sym, ◌∙◌}
 use mathlib.Core.Logic.{◌≢◌, inl, inr}
 use mathlib.Core.Bool.{Bool, true, false, not, cond}
@@ -12,8 +13,6 @@ use lib.ListN.{length, get_or, drop, replicate, drop_of_length-le}
 use lib.Seq.{drop-cons}
 use Rattle.mesh.specs.declared.Heading.{Heading}
 use Rattle.mesh.specs.declared.Heading.TheVariants.{East as E, North as N, South as S, West as W}
-use Rattle.mesh.specs.declared.Letter.TheVariants.{Hop, Other}
-use Rattle.mesh.specs.declared.Last.TheVariants.{Made as made}
 use Rattle.mesh.specs.Headings.{letter, same, named}
 use Rattle.mesh.proofs.Bools.{value, true-false}
 use Rattle.mesh.proofs.Some.{none_passes}
@@ -33,7 +32,7 @@ pub other_last : (x : ℕ) → x ≢ letter E → x ≢ letter N → x ≢ lette
 unfolding named is_other
 other_last x e n s = rw (ne_eqb x _ e, ne_eqb x _ n, ne_eqb x _ s) (by (eqb x (letter W)))
   where
-    by : (b : Bool) → not b ≡ is_other (cond b (Hop W) Other)
+    by : (b : Bool) → not b ≡ is_other (cond b (Some W) None)
     by true = refl
     by false = refl
 
@@ -59,7 +58,7 @@ hops-run zero h ys = refl
 hops-run (suc n) h ys = rw (letter-named h, hops-run n h ys)
 
 -- after a run of h comes another letter
-turned : (h : Heading) (y : ℕ) (ys : List ℕ) → y ≢ letter h → Straight (made h) (legs (hops_named (y ∷ ys)))
+turned : (h : Heading) (y : ℕ) (ys : List ℕ) → y ≢ letter h → Straight (Some h) (legs (hops_named (y ∷ ys)))
 unfolding hops_named hop_by legs Straight
 turned h y ys d =
     elim (name y) [
@@ -74,7 +73,7 @@ turned h y ys d =
 
 module _ (xs : List ℕ) (i j : ℕ) (at : LetterAt xs i) (r : Run xs i j) where
   -- what comes after a run
-  after_run : Straight (made at.heading) (legs_from xs j)
+  after_run : Straight (Some at.heading) (legs_from xs j)
   unfolding legs_from hops_named legs Straight
   after_run =
       elim (dec_lt j (length xs)) [

@@ -1,4 +1,5 @@
 -- What is found of a file is what the operation answers. Assumes nothing.
+use Rattle.std.specs.Prelude.{Ok, Err}
 use mathlib.Core.Path.{◌≡◌, ◌∙◌}
 use mathlib.Core.List.{List}
 use Prim.Native.Nat.{ℕ, ◌≤◌, ◌<◌}
@@ -9,7 +10,6 @@ use Rattle.buffers.specs.Over.{over}
 use Rattle.buffers.proofs.Over.{over-all}
 use Rattle.theory_legs.specs.declared.LegRefusal.{LegRefusal}
 use Rattle.theory_legs.specs.declared.LegRefusal.TheVariants.{Room}
-use Rattle.theory_legs.specs.declared.Converted.TheVariants.{Wrote, Refused}
 use Rattle.theory_legs.specs.Legs.{hops}
 use Rattle.theory_legs.specs.Converting.{legs_in, letters_of, LegsToLetters}
 use Rattle.theory_legs.proofs.FileRefusals.{file-numbered, fault-refuses, legs-accepted}
@@ -19,7 +19,7 @@ use Rattle.to_letters.specs.declared.Counted.TheVariants as counted
 use Rattle.to_letters.specs.Counted.{Whole, CountsFile, Readable, letters_from}
 
 module _ (ys out : List ℕ) {x : Counted} (t : CountsFile ys x) where
-  pub answers-fault : {r : LegRefusal} → x ≡ counted.Refused r → LegsToLetters ys out (Refused r) out
+  pub answers-fault : {r : LegRefusal} → x ≡ counted.Refused r → LegsToLetters ys out (Err r) out
   unfolding CountsFile
   answers-fault {r} e = refuses-as r (fault-refuses ys out (rw e at t))
 
@@ -35,7 +35,7 @@ module _ (ys out : List ℕ) {x : Counted} (t : CountsFile ys x) where
     sized : length (letters_of ys) ≡ total
     sized = rw letters-there (letters-length (hops whole.legs-there) ∙ whole.total-is)
 
-    pub answers-room : length out < total → LegsToLetters ys out (Refused Room) out
+    pub answers-room : length out < total → LegsToLetters ys out (Err Room) out
     answers-room = refuses-room (file-numbered ys) (legs-accepted ys whole.all) sized
 
     module _ (room : total ≤ length out) where
@@ -44,7 +44,7 @@ module _ (ys out : List ℕ) {x : Counted} (t : CountsFile ys x) where
           let w = whole in
           record { legs-there = w.legs-there; rest = _; after = w.after; room = rw w.total-is room }
 
-      pub answers-wrote : {after : List ℕ} → after ≡ over out 0 (letters_from ys first legs) → LegsToLetters ys out (Wrote total) after
+      pub answers-wrote : {after : List ℕ} → after ≡ over out 0 (letters_from ys first legs) → LegsToLetters ys out (Ok total) after
       unfolding letters_from legs_in
       answers-wrote f =
           let stands = rw (whole.after, ← letters-there) at f in

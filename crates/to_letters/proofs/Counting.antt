@@ -1,4 +1,5 @@
 -- The letters of a file counted leg by leg. Assumes nothing.
+use Rattle.std.specs.Prelude.{Some, None}
 use mathlib.Core.Path.{◌≡◌, refl, ap, sym, ◌∙◌}
 use mathlib.Core.Bool.{true, false}
 use mathlib.Core.Logic.{◌≢◌, inl, inr}
@@ -10,7 +11,6 @@ use native.Mathlib.Omega.{arith}
 use borrow.Author.Tests.{lt-ltb, le-ltb}
 use lib.ListN.{length, drop, length-append, length-replicate, replicate, drop_of_length-le}
 use lib.Seq.{drop-cons}
-use Rattle.mesh.specs.declared.Last.TheVariants.{None as none, Made as made}
 use Rattle.mesh.specs.Headings.{same, last_is, code, direction}
 use Rattle.mesh.proofs.Bools.{value}
 use Rattle.mesh.proofs.Headings.{same-heading, same_self, code-of-direction}
@@ -50,7 +50,7 @@ differs-code k before h d =
       | no l ↦ rw (le-ltb before 4 (omega arith))
     ]
 
-last_made : (k : ℕ) → k < 4 → last_coded k ≡ made (direction k)
+last_made : (k : ℕ) → k < 4 → last_coded k ≡ Some (direction k)
 unfolding last_coded
 last_made k h = rw (lt-ltb k 4 h)
 
@@ -79,7 +79,7 @@ added_none (found n rest) = let e : 0 + n ≡ n = omega arith in rw e
 
 -- some legs are counted, left of them are not
 pub record Counting (ys : List ℕ) (first legs at total before left : ℕ) : Type 0 where
-  pub reads : added total (sizes (legs_after ys at left (last_coded before))) ≡ sizes (legs_after ys first legs none)
+  pub reads : added total (sizes (legs_after ys at left (last_coded before))) ≡ sizes (legs_after ys first legs None)
   pub few : total ≤ 16384 * (legs - left)
   pub within : left ≤ legs
   pub small : legs ≤ 65535
@@ -87,7 +87,7 @@ pub record Counting (ys : List ℕ) (first legs at total before left : ℕ) : Ty
 pub counting-none : (ys : List ℕ) (first legs : ℕ) → legs ≤ 65535 → Counting ys first legs first 0 4 legs
 unfolding last_coded
 counting-none ys first legs h =
-    record { reads = added_none (sizes (legs_after ys first legs none)); few = omega arith; within = omega arith; small = h }
+    record { reads = added_none (sizes (legs_after ys first legs None)); few = omega arith; within = omega arith; small = h }
 
 module _ {ys : List ℕ} {first legs at total before left : ℕ} (c : Counting ys first legs at total before left) where
   pub counting-all : left ≡ 0 → CountsLegs ys first legs (span.Letters total at)
@@ -95,7 +95,7 @@ module _ {ys : List ℕ} {first legs at total before left : ℕ} (c : Counting y
   counting-all e = let r = rw e at c.reads in record { told = rw add-zero at r }
 
   module _ (more : 0 < left) where
-    next-fault : {f : ℕ} → read_legs (suc (left - 1)) (last_coded before) (drop at ys) ≡ fault f → fault f ≡ sizes (legs_after ys first legs none)
+    next-fault : {f : ℕ} → read_legs (suc (left - 1)) (last_coded before) (drop at ys) ≡ fault f → fault f ≡ sizes (legs_after ys first legs None)
     unfolding legs_after sizes added
     next-fault e =
         let one : left ≡ suc (left - 1) = omega arith in
@@ -131,7 +131,7 @@ module _ {ys : List ℕ} {first legs at total before left : ℕ} (c : Counting y
             let way : n % 4 < 4 = mod-lt n (omega arith) in
             let small = number-few in
             let leg-read = leg-differs (left - 1) (last_coded before) (drop at ys) number_read (differs-code (n % 4) before way f) in
-            let others = read_legs (left - 1) (made (direction (n % 4))) (drop next ys) in
+            let others = read_legs (left - 1) (Some (direction (n % 4))) (drop next ys) in
             let r = rw (leg-read, sizes-before (leg_of n) others, added-added total (n / 4 + 1) (sizes others)) at (rw one at c.reads) in
             record {
               reads = rw (last_made (n % 4) way) r;
@@ -173,19 +173,19 @@ module _ (ys : List ℕ) {x : Number} (t : number_told ys x ≡ number_from ys 0
     pub legs-few : legs ≤ 65535
     legs-few = told-small ys 0 e t
 
-    file-legs : read_file ys ≡ and_then (legs_after ys first legs none) all_read
+    file-legs : read_file ys ≡ and_then (legs_after ys first legs None) all_read
     unfolding number_told number_from read_file and_then legs_after
     file-legs = rw (sym (rw e at t))
 
     module _ {s : Span} (u : CountsLegs ys first legs s) where
       pub file-refused : {r : LegRefusal} → s ≡ span.Refused r → CountsFile ys (counted.Refused r)
       unfolding CountsFile span_told and_then
-      file-refused {r} f = file-legs ∙ rw (sizes-fault (legs_after ys first legs none) (rw f at u.told))
+      file-refused {r} f = file-legs ∙ rw (sizes-fault (legs_after ys first legs None) (rw f at u.told))
 
       module _ {total end : ℕ} (f : s ≡ span.Letters total end) where
-        legs-found : Sized (legs_after ys first legs none) total (drop end ys)
+        legs-found : Sized (legs_after ys first legs None) total (drop end ys)
         unfolding span_told
-        legs-found = sizes-found (legs_after ys first legs none) (rw f at u.told)
+        legs-found = sizes-found (legs_after ys first legs None) (rw f at u.told)
 
         pub file-left : end < length ys → CountsFile ys (counted.Refused why.LeftOver)
         unfolding CountsFile all_read and_then
@@ -195,5 +195,5 @@ module _ (ys : List ℕ) {x : Number} (t : number_told ys x ≡ number_from ys 0
         unfolding CountsFile all_read and_then
         file-whole h =
             let nothing = drop_of_length-le ys {i = end} h in
-            let all : legs_after ys first legs none ≡ found legs-found.found-legs [] = legs-found.is_found ∙ rw nothing in
+            let all : legs_after ys first legs None ≡ found legs-found.found-legs [] = legs-found.is_found ∙ rw nothing in
             record { legs-there = legs-found.found-legs; after = all; all = file-legs ∙ rw all; total-is = legs-found.size }

@@ -1,4 +1,5 @@
 -- The letters of a file written leg by leg. Assumes nothing.
+use Rattle.std.specs.Prelude.{Option, Some, None}
 use mathlib.Core.Path.{◌≡◌, refl, ap, sym, ◌∙◌}
 use mathlib.Core.Logic.{inl, inr}
 use mathlib.Core.List.{List, [], ◌∷◌, ◌++◌}
@@ -6,8 +7,6 @@ use Prim.Native.Nat.{ℕ, zero, suc, ◌+◌, ◌-◌, ◌/◌, ◌%◌, ◌≤�
 use native.Mathlib.Omega.{arith}
 use lib.ListN.{length, drop, replicate, length-append, length-replicate}
 use Rattle.mesh.specs.declared.Heading.{Heading}
-use Rattle.mesh.specs.declared.Last.{Last}
-use Rattle.mesh.specs.declared.Last.TheVariants.{None as none, Made as made}
 use Rattle.mesh.specs.Headings.{letter, letters, last_is, direction}
 use Rattle.mesh.proofs.Bools.{value}
 use Rattle.buffers.specs.Over.{over, Puts}
@@ -41,7 +40,7 @@ module _ (n : ℕ) (byte : ℕ) {out : List ℕ} {to x : ℕ} {after : List ℕ}
 
 -- the letters of some legs are written: with those of the legs left the output is as it will be
 pub record Writing (ys : List ℕ) (first legs : ℕ) (out : List ℕ) (at to left : ℕ) (now : List ℕ) : Type 0 where
-  pub before : Last
+  pub before : Option Heading
   pub others : List Leg
   pub rest : List ℕ
   pub after : legs_after ys at left before ≡ found others rest
@@ -53,7 +52,7 @@ pub writing-none : {ys : List ℕ} {first legs : ℕ} {out : List ℕ} → Reada
 unfolding letters_from legs_in
 writing-none r =
     record {
-      before = none;
+      before = None;
       others = r.legs-there;
       rest = r.rest;
       after = r.after;
@@ -65,7 +64,7 @@ writing-none r =
 -- the next leg, and the others
 record Next (ys : List ℕ) (left n next : ℕ) (all : List Leg) (rest : List ℕ) : Type 0 where
   pub others : List Leg
-  pub after : legs_after ys next (left - 1) (made (leg_of n).heading) ≡ found others rest
+  pub after : legs_after ys next (left - 1) (Some (leg_of n).heading) ≡ found others rest
   pub whole : all ≡ leg_of n ∷ others
 
 module _ {ys : List ℕ} {first legs : ℕ} {out : List ℕ} {at to left : ℕ} {now : List ℕ} (w : Writing ys first legs out at to left now) where
@@ -101,7 +100,7 @@ module _ {ys : List ℕ} {first legs : ℕ} {out : List ℕ} {at to left : ℕ} 
               | inl r ↦ fault-found (leg-repeats (left - 1) w.before (drop at ys) number_read r) read_here
               | inr r ↦
                   let d = leg-differs (left - 1) w.before (drop at ys) number_read r in
-                  elim (outcome (read_legs (left - 1) (made (leg_of n).heading) (drop next ys))) [
+                  elim (outcome (read_legs (left - 1) (Some (leg_of n).heading) (drop next ys))) [
                     | faulty k f ↦ fault-found {k = k} (d ∙ rw f) read_here
                     | read ls after f ↦
                         let all : found (leg_of n ∷ ls) after ≡ found w.others w.rest = sym (d ∙ rw f) ∙ read_here in
@@ -129,7 +128,7 @@ module _ {ys : List ℕ} {first legs : ℕ} {out : List ℕ} {at to left : ℕ} 
             let leads-here = rw (m.whole, letters-run (n / 4 + 1) (direction (n % 4)) (hops m.others)) at w.leads in
             let same_size : length now' ≡ length now = rw p.stands (over-length now to new) in
             record {
-              before = made (direction (n % 4));
+              before = Some (direction (n % 4));
               others = m.others;
               rest = w.rest;
               after = m.after;

@@ -1,7 +1,6 @@
 -- What the code says of its parts: ys are the bytes of a file. Assumes nothing.
-use Rattle.std.specs.Prelude.{◌≡◌, cond, List, [], ℕ, ◌≤◌, ltb, length, drop}
-use Rattle.mesh.specs.declared.Last.{Last}
-use Rattle.mesh.specs.declared.Last.TheVariants.{None as none, Made as made}
+use Rattle.mesh.specs.declared.Heading.{Heading}
+use Rattle.std.specs.Prelude.{◌≡◌, cond, List, [], ℕ, ◌≤◌, ltb, length, drop, Option, Some, None}
 use Rattle.mesh.specs.Headings.{letters, direction}
 use Rattle.theory_legs.specs.Groups.{Found, fault, found}
 use Rattle.theory_legs.specs.Legs.{Leg, hops}
@@ -13,11 +12,11 @@ use Rattle.to_letters.specs.declared.Counted.{Counted}
 use Rattle.to_letters.specs.declared.Counted.TheVariants as counted
 
 -- the direction of a code; 4 is that of no leg
-unfoldable pub last_coded : ℕ → Last
-last_coded k = cond (ltb k 4) (made (direction k)) none
+unfoldable pub last_coded : ℕ → Option Heading
+last_coded k = cond (ltb k 4) (Some (direction k)) None
 
 -- a number of legs from index at of a file on, after one in that direction
-unfoldable pub legs_after : List ℕ → ℕ → ℕ → Last → Found (List Leg)
+unfoldable pub legs_after : List ℕ → ℕ → ℕ → Option Heading → Found (List Leg)
 legs_after ys at legs before = read_legs legs before (drop at ys)
 
 -- the number of letters of the legs that are found
@@ -31,12 +30,12 @@ span_told ys (span.Letters n end) = found n (drop end ys)
 span_told ys (span.Refused why) = fault (leg_refusal_number why)
 
 pub record CountsLegs (ys : List ℕ) (first legs : ℕ) (x : Span) : Type 0 where
-  pub told : span_told ys x ≡ sizes (legs_after ys first legs none)
+  pub told : span_told ys x ≡ sizes (legs_after ys first legs None)
 
 -- the legs from index first on are all of the file, and have that many letters
 pub record Whole (ys : List ℕ) (legs first total : ℕ) : Type 0 where
   pub legs-there : List Leg
-  pub after : legs_after ys first legs none ≡ found legs-there []
+  pub after : legs_after ys first legs None ≡ found legs-there []
   pub all : read_file ys ≡ found legs-there []
   pub total-is : length (hops legs-there) ≡ total
 
@@ -48,9 +47,9 @@ CountsFile ys (counted.Legs legs first total) = Whole ys legs first total
 pub record Readable (ys : List ℕ) (first legs : ℕ) (out : List ℕ) : Type 0 where
   pub legs-there : List Leg
   pub rest : List ℕ
-  pub after : legs_after ys first legs none ≡ found legs-there rest
+  pub after : legs_after ys first legs None ≡ found legs-there rest
   pub room : length (hops legs-there) ≤ length out
 
 -- the letters of the legs from index first on
 unfoldable pub letters_from : List ℕ → ℕ → ℕ → List ℕ
-letters_from ys first legs = letters (hops (legs_in (legs_after ys first legs none)))
+letters_from ys first legs = letters (hops (legs_in (legs_after ys first legs None)))

@@ -1,4 +1,5 @@
 -- The hops of a leg: rule 2 where the packet is not stopped, rule 5 where the next node is free. Assumes nothing.
+use Rattle.std.specs.Prelude.{Option, Some}
 use mathlib.Core.Path.{◌≡◌, refl, sym, ◌∙◌}
 use mathlib.Core.Bool.{Bool, true, false, ◌&&◌, and-false}
 use mathlib.Core.List.{List}
@@ -9,8 +10,6 @@ use borrow.Author.Tests.{lt-ltb, le-ltb, eqb-false}
 use lib.Dec.{eqb}
 use Rattle.mesh.specs.declared.Heading.{Heading}
 use Rattle.mesh.specs.declared.Heading.TheVariants.{North as N, South as S, West as W}
-use Rattle.mesh.specs.declared.Last.{Last}
-use Rattle.mesh.specs.declared.Last.TheVariants.{Made as made}
 use Rattle.mesh.specs.declared.Network.{Network}
 use Rattle.mesh.specs.declared.Packet.{Packet}
 use Rattle.mesh.specs.Mesh.{Mesh, mesh}
@@ -28,11 +27,11 @@ use Rattle.rules.proofs.Rules.{last_made, last-self, stopped-second, near_again}
 use Rattle.travel.specs.Straight.{BothOnMesh, after, Runs, Unstopped}
 use Rattle.travel.proofs.Ways.{side-stays, side-reaches, side-row, toward-stays, toward-reaches}
 
-last_by : ℕ → Heading → Last → Last
+last_by : ℕ → Heading → Option Heading → Option Heading
 last_by zero h l = l
-last_by (suc i) h l = made h
+last_by (suc i) h l = Some h
 
-last-stays : (i : ℕ) (h : Heading) → last_by i h (made h) ≡ made h
+last-stays : (i : ℕ) (h : Heading) → last_by i h (Some h) ≡ Some h
 unfolding last_by
 last-stays zero h = refl
 last-stays (suc i) h = refl
@@ -64,7 +63,7 @@ runs-one network w h p away is-h =
     }
 
 -- rule 2, not stopped
-hop-in-row : (t : Trip) (r c : ℕ) (l : Last) {s : Heading} → eqb r t.R ≡ true → stopped t r c ≡ false → side t c ≡ s → s ≡ hop t r c l
+hop-in-row : (t : Trip) (r c : ℕ) (l : Option Heading) {s : Heading} → eqb r t.R ≡ true → stopped t r c ≡ false → side t c ≡ s → s ≡ hop t r c l
 unfolding hop in_row
 hop-in-row t r c l on not_stopped is-side = rw (on, not_stopped, is-side)
 
@@ -78,7 +77,7 @@ open-before t {s} {n} {r} {c} {x} i f le is-side =
     rw (is-side, one, two, and-false)
 
 -- rule 5, the next node free
-hop-nearing : (t : Trip) (h : Heading) (r c : ℕ) → toward t r ≡ h → eqb r t.R ≡ false → blocked t h 1 r c ≡ false → h ≡ hop t r c (made h)
+hop-nearing : (t : Trip) (h : Heading) (r c : ℕ) → toward t r ≡ h → eqb r t.R ≡ false → blocked t h 1 r c ≡ false → h ≡ hop t r c (Some h)
 unfolding hop other_row nearing toward
 hop-nearing t h r c is-h off free =
     elim (dec_lt r t.R) [
@@ -191,7 +190,7 @@ module _ (network : Network) {columns rows : ℕ} {marks : List ℕ} {p : Packet
         (toward t (row_by h i r) ≡ h) × (eqb (row_by h i r) p.destination.row.0 ≡ false)
     onward = rw is-h (toward-stays t r {n = n} (omega arith))
 
-    was : p.last ≡ made h
+    was : p.last ≡ Some h
     unfolding nears_row toward
     was = last_made p.last h (rw is-h nears)
 

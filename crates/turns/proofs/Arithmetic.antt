@@ -1,4 +1,6 @@
 -- Laws of the turn test by arithmetic. Assumes nothing.
+use Rattle.std.specs.Prelude.{Option, Some, None}
+use Rattle.mesh.specs.declared.TurnRule.{TurnRule}
 use mathlib.Core.Path.{◌≡◌, refl}
 use mathlib.Core.Bool.{Bool, true}
 use Prim.Native.Nat.{ℕ, zero, suc, ◌+◌, ◌*◌, ◌≤◌, ◌<◌}
@@ -7,8 +9,7 @@ use native.Mathlib.Numerals.{add-one}
 use native.Mathlib.Omega.{arith}
 use borrow.Author.Count.{below_more}
 use lib.Dec.{eqb}
-use Rattle.mesh.specs.declared.Broken.{Broken}
-use Rattle.mesh.specs.declared.Broken.TheVariants.{Neither, Rule1, Rule2}
+use Rattle.mesh.specs.declared.TurnRule.TheVariants.{Rule1, Rule2}
 use Rattle.mesh.specs.declared.Heading.{Heading}
 use Rattle.mesh.specs.declared.Heading.TheVariants.{East as E, North as N, South as S, West as W}
 use Rattle.mesh.specs.declared.Network.{Network}
@@ -26,11 +27,11 @@ every_one (suc n) t e k h =
     let both : (t n ≡ true) × (every n t ≡ true) = and_both e in
     below_more (λ j. t j ≡ true) n (every_one n t both.1) both.0 k (rw add-one h)
 
-pub rule-of-number : (x : Broken) → rule_of (rule_number x) ≡ x
+pub rule-of-number : (x : Option TurnRule) → rule_of (rule_number x) ≡ x
 unfolding rule_of
-rule-of-number Neither = refl
-rule-of-number Rule1 = refl
-rule-of-number Rule2 = refl
+rule-of-number None = refl
+rule-of-number (Some Rule1) = refl
+rule-of-number (Some Rule2) = refl
 
 -- a rule looks at the kind of the column alone
 pub rule-of-turn : (west : ℕ → Bool) (c p : ℕ) → west c ≡ permits_west p → (g h : Heading) →
@@ -66,10 +67,10 @@ back-reverses W S = refl
 back-reverses W W = refl
 
 -- the numbers of the formula are small
-number-few : (x : Broken) → rule_number x ≤ 2
-number-few Neither = omega arith
-number-few Rule1 = omega arith
-number-few Rule2 = omega arith
+number-few : (x : Option TurnRule) → rule_number x ≤ 2
+number-few None = omega arith
+number-few (Some Rule1) = omega arith
+number-few (Some Rule2) = omega arith
 
 pub rule-few : (a b p : ℕ) → broken_rule a b p ≤ 2
 unfolding broken_rule

@@ -1,21 +1,21 @@
 -- The turn test by arithmetic (document 02, E5): a and b are the codes of the hops before and after (0 E, 1 N, 2 W, 3 S), p is the column's
 -- remainder by 2. Assumes nothing.
-use Rattle.std.specs.Prelude.{Bool, true, cond, ◌&&◌, ℕ, zero, suc, ◌+◌, ◌-◌, ◌*◌, ◌/◌, ◌%◌, eqb}
-use Rattle.mesh.specs.declared.Broken.{Broken}
-use Rattle.mesh.specs.declared.Broken.TheVariants.{Neither, Rule1, Rule2}
+use Rattle.mesh.specs.declared.TurnRule.{TurnRule}
+use Rattle.std.specs.Prelude.{Bool, true, cond, ◌&&◌, ℕ, zero, suc, ◌+◌, ◌-◌, ◌*◌, ◌/◌, ◌%◌, eqb, Option, Some, None}
+use Rattle.mesh.specs.declared.TurnRule.TheVariants.{Rule1, Rule2}
 use Rattle.mesh.specs.Headings.{direction}
 use Rattle.mesh.specs.Parity.{permits_west}
 use Rattle.mesh.specs.Turns.{turn_breaks}
 
 -- the number of the rule, 0 for neither
-abbrev pub rule_number : Broken → ℕ
-rule_number Neither = 0
-rule_number Rule1 = 1
-rule_number Rule2 = 2
+abbrev pub rule_number : Option TurnRule → ℕ
+rule_number None = 0
+rule_number (Some Rule1) = 1
+rule_number (Some Rule2) = 2
 
 -- the rule of that number
-unfoldable pub rule_of : ℕ → Broken
-rule_of n = cond (eqb n 0) Neither (cond (eqb n 1) Rule1 Rule2)
+unfoldable pub rule_of : ℕ → Option TurnRule
+rule_of n = cond (eqb n 0) None (cond (eqb n 1) (Some Rule1) (Some Rule2))
 
 -- what is to be found: the rule that the turn breaks, by its number
 unfoldable pub broken_rule : ℕ → ℕ → ℕ → ℕ
