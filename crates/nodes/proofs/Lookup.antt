@@ -1,17 +1,17 @@
 -- The definitions as the code asks for them, case by case. Assumes nothing.
 use mathlib.Core.Path.{◌≡◌, refl}
-use mathlib.Core.Bool.{Bool, false, not, and-false}
+use mathlib.Core.Bool.{Bool, true, false, not}
 use mathlib.Core.List.{List}
 use Prim.Native.Nat.{ℕ, zero, suc, ◌+◌, ◌-◌, ◌*◌, ◌≤◌, ◌<◌}
 use native.Mathlib.Nat.{mul-le-mul_right}
 use native.Mathlib.Omega.{arith}
-use borrow.Author.Tests.{lt-ltb, le-ltb, le-leb, lt-leb}
+use borrow.Author.Tests.{lt-ltb, le-leb, lt-leb}
 use lib.Dec.{eqb, eqb-suc-zero}
 use lib.ListN.{length, get_or}
 use Rattle.mesh.specs.declared.Heading.{Heading}
 use Rattle.mesh.specs.declared.Heading.TheVariants.{East as E, North as N, South as S, West as W}
 use Rattle.mesh.specs.declared.Place.{Place}
-use Rattle.mesh.specs.Mesh.{mesh, on_mesh}
+use Rattle.mesh.specs.Mesh.{Mesh, mesh, on_mesh}
 use Rattle.mesh.specs.Nodes.{is_bad, bad, ahead}
 use Rattle.mesh.specs.Requests.{off_mesh}
 use Rattle.mesh.proofs.Index.{index-within, few-nodes}
@@ -31,24 +31,21 @@ row_fits {columns} {rows} {r} s h =
     let few = few-nodes columns rows s.few-columns s.few-rows in
     (omega (arith, s.size), omega arith)
 
-module _ (columns rows : ℕ) (map : List ℕ) (r c : ℕ) where
-  pub at-fits : OnMesh columns rows map r c → (r * columns + c < length map) × (r * columns + c < 4096)
-  at-fits on =
-      let i = index-within columns r c on.column rows on.row in
-      let j = few-nodes columns rows on.sized.few-columns on.sized.few-rows in
-      (omega (arith, on.sized.size), omega arith)
+pub at-fits : {columns rows : ℕ} {map : List ℕ} {p : Place} → Sized columns rows map → OnMesh (mesh columns rows map) p →
+    (p.row.0 * columns + p.column.0 < length map) × (p.row.0 * columns + p.column.0 < 4096)
+at-fits {columns} {rows} {map} {p} s on =
+    let i = index-within columns p.row.0 p.column.0 on.column rows on.row in
+    let j = few-nodes columns rows s.few-columns s.few-rows in
+    (omega (arith, s.size), omega arith)
 
-  pub bad-here : r < rows → c < columns → not (eqb (get_or map (r * columns + c) 0) 0) ≡ bad (mesh columns rows map) r c
+module _ (w : Mesh) (r c : ℕ) where
+  pub bad-here : r < w.rows → c < w.columns → not (eqb (get_or w.map (r * w.columns + c) 0) 0) ≡ bad w r c
   unfolding bad on_mesh
-  bad-here p q = rw (lt-ltb r rows p, lt-ltb c columns q) (is_bad-test _)
+  bad-here p q = rw (lt-ltb r w.rows p, lt-ltb c w.columns q) (is_bad-test _)
 
-  pub bad-east : columns ≤ c → false ≡ bad (mesh columns rows map) r c
-  unfolding bad on_mesh
-  bad-east q = rw (le-ltb c columns q, and-false)
-
-  pub bad-north : rows ≤ r → false ≡ bad (mesh columns rows map) r c
-  unfolding bad on_mesh
-  bad-north p = rw (le-ltb r rows p)
+  pub bad-off : on_mesh w r c ≡ false → false ≡ bad w r c
+  unfolding bad
+  bad-off h = rw h
 
 -- looking ahead, by the heading
 module _ (B : ℕ → ℕ → Bool) (k r c : ℕ) {h : Heading} where
@@ -77,7 +74,10 @@ module _ (B : ℕ → ℕ → Bool) (k r c : ℕ) {h : Heading} where
   ahead-off-west e o = rw (e, lt-leb k c o)
 
 -- a place that refusal 6 lets pass
-pub on-mesh : (columns rows : ℕ) (map : List ℕ) (p : Place) → Sized columns rows map → off_mesh (mesh columns rows map) p ≡ false →
-    OnMesh columns rows map p.row.0 p.column.0
-on-mesh columns rows map p s on =
-    record { sized = s; row = on_row (mesh columns rows map) p on; column = on-column (mesh columns rows map) p on }
+pub on-mesh : (w : Mesh) (p : Place) → off_mesh w p ≡ false → OnMesh w p
+on-mesh w p on = record { row = on_row w p on; column = on-column w p on }
+
+-- a place that is found on the mesh
+pub has-place : (w : Mesh) (p : Place) → on_mesh w p.row.0 p.column.0 ≡ true → OnMesh w p
+unfolding off_mesh
+has-place w p on = on-mesh w p (rw on)

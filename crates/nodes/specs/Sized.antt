@@ -1,5 +1,7 @@
 -- What looking up a node asks. Assumes nothing.
 use Rattle.std.specs.Prelude.{◌≡◌, List, ℕ, ◌*◌, ◌≤◌, ◌<◌, length}
+use Rattle.mesh.specs.declared.Place.{Place}
+use Rattle.mesh.specs.Mesh.{Mesh}
 
 -- a map of the size of its mesh, which has at most 64 columns and rows
 pub record Sized (columns rows : ℕ) (map : List ℕ) : Type 0 where
@@ -7,8 +9,7 @@ pub record Sized (columns rows : ℕ) (map : List ℕ) : Type 0 where
   pub few-rows : rows ≤ 64
   pub size : length map ≡ columns * rows
 
--- and a place (r, c) of it
-pub record OnMesh (columns rows : ℕ) (map : List ℕ) (r c : ℕ) : Type 0 where
-  pub sized : Sized columns rows map
-  pub row : r < rows
-  pub column : c < columns
+-- a place of a mesh
+pub record OnMesh (w : Mesh) (p : Place) : Type 0 where
+  pub row : p.row.0 < w.rows
+  pub column : p.column.0 < w.columns

@@ -1,124 +1,134 @@
 // The nodes of a map or a marking: which are bad, which the rules make unsafe, and what each becomes in a round.
 #![tactic(auto)]
 
-ghost use Rattle.std.specs.Prelude.{◌≡◌, ◌<◌};
-ghost use Rattle.mesh.specs.Mesh.{mesh};
+ghost use Rattle.std.specs.Prelude.{◌≡◌, ◌||◌, ◌+◌, ◌*◌, ◌<◌, get_or};
+ghost use Rattle.mesh.specs.declared.Heading.TheVariants.{East, West};
+ghost use Rattle.mesh.specs.Mesh.{on_mesh};
 ghost use Rattle.mesh.specs.Nodes.{bad, ahead, upright, unsafe};
-ghost use Rattle.nodes.specs.Sized.{Sized, OnMesh};
+ghost use Rattle.nodes.specs.Sized.{OnMesh};
 ghost use Rattle.nodes.specs.Rounds.{node_after};
 
-use mesh::{Column, Heading, Row};
+use mesh::{Column, Heading, Place, Row};
+use std::marker::Model;
 
-// Whether the node is bad.
-pub fn is_bad_node(columns: u32, rows: u32, map: &[u8], r: Row, c: Column) -> bool
-    requires { OnMesh columns rows map.now r.0 c.0 }
-    ensures { result ≡ bad (mesh columns rows map.now) r.0 c.0 }
-{
-    let at = r.0 * columns + c.0;
-    map[at as usize] != 0
+// A mesh of at most 64 columns and rows, and a number for each of its nodes: a fault map, or a marking. In a clause it is a `Mesh`.
+#[derive(Drop)]
+pub struct Nodes<'a> {
+    pub columns: u32,
+    pub rows: u32,
+    pub map: &'a [u8],
 }
 
-// Whether the place is a bad node. Places beyond the mesh never are.
-pub fn is_bad(columns: u32, rows: u32, map: &[u8], r: Row, c: Column) -> bool
-    requires { Sized columns rows map.now }
-    ensures { result ≡ bad (mesh columns rows map.now) r.0 c.0 }
-{
-    if rows <= r.0 {
-        return false;
-    }
-    if columns <= c.0 {
-        return false;
-    }
-    is_bad_node(columns, rows, map, r, c)
+impl<'a> Model for Nodes<'a> {
+    ghost use Rattle.mesh.specs.Mesh.{Mesh, mesh};
+    ghost use Rattle.nodes.specs.Sized.{Sized};
+
+    ghost Value = { Mesh };
+
+    ghost view = { λ n. mesh n.columns n.rows n.map.now };
+
+    ghost invariant = { λ n. Sized n.columns n.rows n.map.now };
 }
 
-// Whether the node k hops that way is bad.
-pub fn is_bad_ahead(
-    columns: u32,
-    rows: u32,
-    map: &[u8],
-    r: Row,
-    c: Column,
-    h: Heading,
-    k: u32,
-) -> bool
-    requires { OnMesh columns rows map.now r.0 c.0 × (k < 64) }
-    ensures { result ≡ ahead (bad (mesh columns rows map.now)) h k r.0 c.0 }
-{
-    let row = r.0;
-    let column = c.0;
-    match h {
-        Heading::East => {
-            return is_bad(columns, rows, map, r, Column(column + k));
-        }
-        Heading::North => {
-            return is_bad(columns, rows, map, Row(row + k), c);
-        }
-        Heading::South => {
-            if row < k {
-                return false;
-            }
-            return is_bad(columns, rows, map, Row(row - k), c);
-        }
-        Heading::West => {
-            if column < k {
-                return false;
-            }
-            return is_bad(columns, rows, map, r, Column(column - k));
-        }
+impl<'a> Nodes<'a> {
+    // Whether the place is on the mesh.
+    #[tactic(auto, unfolding(mesh::specs::Mesh::on_mesh))]
+    pub fn has(&self, p: Place) -> bool
+        ensures { result ≡ on_mesh self.now p.row.0 p.column.0 }
+    {
+        p.row.0 < self.rows && p.column.0 < self.columns
     }
-}
 
-// Whether the north or south neighbour is bad.
-fn is_upright(columns: u32, rows: u32, map: &[u8], r: Row, c: Column) -> bool
-    requires { OnMesh columns rows map.now r.0 c.0 }
-    ensures { result ≡ upright (bad (mesh columns rows map.now)) r.0 c.0 }
-{
-    if is_bad_ahead(columns, rows, map, r, c, Heading::North, 1) {
-        return true;
+    // The number of a node.
+    fn get(&self, p: Place) -> u8
+        requires { OnMesh self.now p }
+        ensures { result ≡ get_or self.now.map (p.row.0 * self.now.columns + p.column.0) 0 }
+    {
+        self.map[(p.row.0 * self.columns + p.column.0) as usize]
     }
-    is_bad_ahead(columns, rows, map, r, c, Heading::South, 1)
-}
 
-// Rules (a) and (b): whether the node becomes unsafe if it is sound.
-pub fn is_unsafe(columns: u32, rows: u32, map: &[u8], r: Row, c: Column) -> bool
-    requires { OnMesh columns rows map.now r.0 c.0 }
-    ensures { result ≡ unsafe (bad (mesh columns rows map.now)) r.0 c.0 }
-{
-    let e = is_bad_ahead(columns, rows, map, r, c, Heading::East, 1);
-    let w = is_bad_ahead(columns, rows, map, r, c, Heading::West, 1);
-    if is_upright(columns, rows, map, r, c) {
-        if e {
-            return true;
-        }
-        if w {
-            return true;
-        }
-        if is_bad_ahead(columns, rows, map, r, c, Heading::East, 2) {
-            return true;
-        }
-        return is_bad_ahead(columns, rows, map, r, c, Heading::West, 2);
+    // Whether the node is bad.
+    pub fn is_bad_node(&self, p: Place) -> bool
+        requires { OnMesh self.now p }
+        ensures { result ≡ bad self.now p.row.0 p.column.0 }
+    {
+        self.get(p) != 0
     }
-    if e {
-        return w;
-    }
-    false
-}
 
-// What the node becomes in a round.
-pub fn node_after(columns: u32, rows: u32, map: &[u8], r: Row, c: Column) -> u8
-    requires { OnMesh columns rows map.now r.0 c.0 }
-    ensures { result ≡ node_after (mesh columns rows map.now) r.0 c.0 }
-{
-    let row = r.0;
-    let column = c.0;
-    let at = row * columns + column;
-    let x = map[at as usize];
-    if x != 0 {
-        return x;
+    // Whether the place is a bad node. Places beyond the mesh never are.
+    pub fn is_bad(&self, p: Place) -> bool
+        ensures { result ≡ bad self.now p.row.0 p.column.0 }
+    {
+        self.has(p) && self.is_bad_node(p)
     }
-    if is_unsafe(columns, rows, map, r, c) {
-        return 2;
+
+    // Whether the node k hops that way is bad.
+    pub fn is_bad_ahead(&self, p: Place, h: Heading, k: u32) -> bool
+        requires { OnMesh self.now p × (k < 64) }
+        ensures { result ≡ ahead (bad self.now) h k p.row.0 p.column.0 }
+    {
+        let Place {
+            row: Row(row),
+            column: Column(column),
+        } = p;
+        let _ = &self.columns;
+        match h {
+            Heading::East => self.is_bad(Place {
+                column: Column(column + k),
+                ..p
+            }),
+            Heading::North => self.is_bad(Place {
+                row: Row(row + k),
+                ..p
+            }),
+            Heading::South => k <= row
+                && self.is_bad(Place {
+                    row: Row(row - k),
+                    ..p
+                }),
+            Heading::West => k <= column
+                && self.is_bad(Place {
+                    column: Column(column - k),
+                    ..p
+                }),
+        }
     }
-    0
+
+    // Whether a node k columns to the east or west is bad.
+    pub fn is_bad_beside(&self, p: Place, k: u32) -> bool
+        requires { OnMesh self.now p × (k < 64) }
+        ensures { result ≡ ahead (bad self.now) East k p.row.0 p.column.0 || ahead (bad self.now) West k p.row.0 p.column.0 }
+    {
+        self.is_bad_ahead(p, Heading::East, k) || self.is_bad_ahead(p, Heading::West, k)
+    }
+
+    // Whether the north or south neighbour is bad.
+    #[tactic(auto, unfolding(mesh::specs::Nodes::upright))]
+    fn is_upright(&self, p: Place) -> bool
+        requires { OnMesh self.now p }
+        ensures { result ≡ upright (bad self.now) p.row.0 p.column.0 }
+    {
+        self.is_bad_ahead(p, Heading::North, 1) || self.is_bad_ahead(p, Heading::South, 1)
+    }
+
+    // Rules (a) and (b): whether the node becomes unsafe if it is sound.
+    pub fn is_unsafe(&self, p: Place) -> bool
+        requires { OnMesh self.now p }
+        ensures { result ≡ unsafe (bad self.now) p.row.0 p.column.0 }
+    {
+        if self.is_upright(p) {
+            self.is_bad_beside(p, 1) || self.is_bad_beside(p, 2)
+        } else {
+            self.is_bad_ahead(p, Heading::East, 1) && self.is_bad_ahead(p, Heading::West, 1)
+        }
+    }
+
+    // What the node becomes in a round.
+    pub fn node_after(&self, p: Place) -> u8
+        requires { OnMesh self.now p }
+        ensures { result ≡ node_after self.now p.row.0 p.column.0 }
+    {
+        let x = self.get(p);
+        if x == 0 && self.is_unsafe(p) { 2 } else { x }
+    }
 }
