@@ -1,12 +1,5 @@
 -- Headings, their letters and their codes tell one another apart. Assumes nothing.
-use Rattle.std.specs.Prelude.{Some, None}
-use mathlib.Core.Path.{◌≡◌, refl, ap}
-use mathlib.Core.Logic.{inl, inr}
-use mathlib.Core.Bool.{true}
-use Prim.Native.Nat.{ℕ, zero, suc, ◌<◌}
-use native.Mathlib.Omega.{arith}
-use borrow.Author.Tests.{eqb-true, eq-eqb}
-use lib.Dec.{eqb}
+use Rattle.std.proofs.Common.{Some, None, ◌≡◌, refl, ap, inl, inr, true, ℕ, zero, suc, ◌<◌, arith, eqb-true, eq-eqb, eqb}
 use Rattle.mesh.specs.Headings.{Heading, E, N, S, W, letter, same, named, code, direction}
 use Rattle.mesh.proofs.Bools.{value}
 

@@ -1,11 +1,6 @@
 -- Packets and places of the mesh, and what a lawful hop is made of. Assumes nothing.
-use Rattle.std.specs.Prelude.{Option, Some}
-use mathlib.Core.Path.{◌≡◌, refl}
-use mathlib.Core.Bool.{Bool, true, false, not}
-use Prim.Native.Nat.{ℕ, ◌<◌}
-use native.Mathlib.Omega.{arith}
-use borrow.Author.Tests.{ltb-true, lt-ltb, not-true}
-use lib.Dec.{ltb}
+use Rattle.std.proofs.Common.{Option, Some, ◌≡◌, refl, Bool, true, false, not, ℕ, ◌<◌, arith, ltb-true, lt-ltb, ltb}
+use borrow.Author.Tests.{not-true}
 use Rattle.mesh.specs.Mesh.{Mesh, on_mesh}
 use Rattle.mesh.specs.Headings.{Heading, E, N, S, W, row_after, column_after, opposite, same}
 use Rattle.mesh.specs.Turns.{breaks, turn_breaks, hop_breaks, reverses, turns_back, may_turn}

@@ -1,10 +1,5 @@
 -- Lists compared, and the letters of hops. Assumes nothing.
-use mathlib.Core.Path.{◌≡◌, refl, ap}
-use mathlib.Core.Bool.{true}
-use mathlib.Core.List.{List, [], ◌∷◌}
-use Prim.Native.Nat.{ℕ, suc}
-use borrow.Author.Tests.{eq-eqb, eqb-true}
-use lib.ListN.{length}
+use Rattle.std.proofs.Common.{◌≡◌, refl, ap, true, List, [], ◌∷◌, ℕ, suc, eq-eqb, eqb-true, length}
 use Rattle.mesh.specs.Headings.{Heading, letters}
 use Rattle.mesh.specs.Rounds.{same_list}
 use Rattle.mesh.proofs.Bools.{and_both}

@@ -1,13 +1,6 @@
 -- Where a fault may lie, and what it says that none of refusals 1 to 5 applies. Assumes nothing.
-use mathlib.Core.Path.{◌≡◌, refl}
-use mathlib.Core.Bool.{true, false}
-use mathlib.Core.List.{List}
-use Prim.Native.Nat.{ℕ, ◌+◌, ◌*◌, ◌/◌, ◌%◌, ◌≤◌, ◌<◌}
-use native.Mathlib.Nat.{zero-add}
-use native.Mathlib.Omega.{arith}
-use borrow.Author.Tests.{eqb-true, ne_eqb, leb-true, ltb-true, ltb-false, le-leb, le-ltb, lt-ltb, not-false}
-use lib.Dec.{eqb, ltb}
-use lib.ListN.{length, get_or}
+use Rattle.std.proofs.Common.{◌≡◌, refl, true, false, List, ℕ, ◌+◌, ◌*◌, ◌/◌, ◌%◌, ◌≤◌, ◌<◌, zero-add, arith, eqb-true, ne_eqb, leb-true, ltb-true, ltb-false, le-leb, le-ltb, lt-ltb, eqb, ltb, length, get_or}
+use borrow.Author.Tests.{not-false}
 use Rattle.mesh.specs.Mesh.{mesh, on_mesh}
 use Rattle.mesh.specs.Tests.{first}
 use Rattle.mesh.specs.Nodes.{is_bad, bad}

@@ -1,12 +1,6 @@
 -- The map without faults. Assumes nothing.
-use mathlib.Core.Path.{◌≡◌, refl}
-use mathlib.Core.Logic.{inl, inr}
-use mathlib.Core.Bool.{false}
-use mathlib.Core.List.{List}
-use Prim.Native.Nat.{ℕ, ◌+◌, ◌*◌}
-use borrow.Author.Tests.{eq-eqb}
-use lib.Dec.{ltb}
-use lib.ListN.{replicate, length-replicate, get_or-replicate}
+use Rattle.std.proofs.Common.{◌≡◌, refl, inl, inr, false, List, ℕ, ◌+◌, ◌*◌, eq-eqb, ltb, replicate}
+use lib.ListN.{length-replicate, get_or-replicate}
 use Rattle.mesh.specs.Mesh.{mesh, on_mesh}
 use Rattle.mesh.specs.Tests.{first}
 use Rattle.mesh.specs.Nodes.{is_bad, bad}

@@ -1,11 +1,8 @@
 -- All that is used of which columns permit which turn, on either network: the two kinds are opposite, which holds by definition, and change
 -- with each column.
 -- Assumes nothing.
-use mathlib.Core.Path.{◌≡◌, refl, sym, ◌∙◌}
-use mathlib.Core.Bool.{not}
-use Prim.Native.Nat.{ℕ, zero, suc, ◌+◌, ◌-◌, ◌%◌, ◌<◌}
-use native.Mathlib.Nat.{mod-lt, mod-add-mod}
-use native.Mathlib.Omega.{arith}
+use Rattle.std.proofs.Common.{◌≡◌, refl, sym, ◌∙◌, not, ℕ, zero, suc, ◌+◌, ◌-◌, ◌%◌, ◌<◌, mod-lt, arith}
+use native.Mathlib.Nat.{mod-add-mod}
 use Rattle.mesh.specs.declared.Network.{Network}
 use Rattle.mesh.specs.declared.Network.TheVariants.{First, Second}
 use Rattle.mesh.specs.Parity.{remainder, permits_west, turns_west}

@@ -1,7 +1,5 @@
 -- What it says that none of refusals 6 to 9 applies. Assumes nothing.
-use mathlib.Core.Path.{◌≡◌, refl}
-use mathlib.Core.Bool.{true, false}
-use Prim.Native.Nat.{◌<◌}
+use Rattle.std.proofs.Common.{◌≡◌, refl, true, false, ◌<◌}
 use borrow.Author.Tests.{not-false}
 use Rattle.mesh.specs.declared.Network.{Network}
 use Rattle.mesh.specs.declared.Place.{Place}

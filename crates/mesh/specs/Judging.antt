@@ -1,6 +1,6 @@
 -- Judge a hand-in (document 01, "The four operations"), on either network (document 02, E6). Assumes nothing.
-use Rattle.mesh.specs.declared.NotPassed.{NotPassed}
 use Rattle.std.specs.Prelude.{not, cond, List, [], ◌∷◌, ◌++◌, ℕ, zero, suc, Option, Some, None, Result, Ok, Err}
+use Rattle.mesh.specs.declared.NotPassed.{NotPassed}
 use Rattle.mesh.specs.declared.NotPassed.TheVariants.{Refused, Wrong}
 use Rattle.mesh.specs.declared.Network.{Network}
 use Rattle.mesh.specs.declared.Place.{Place}

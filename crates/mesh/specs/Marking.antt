@@ -1,6 +1,6 @@
 -- Mark blocks (document 01, "The four operations"). Assumes nothing.
-use Rattle.mesh.specs.declared.Refusal.{Refusal}
 use Rattle.std.specs.Prelude.{◌≡◌, List, [], ◌∷◌, ◌++◌, ℕ, ltb, length, Result, Ok, Err}
+use Rattle.mesh.specs.declared.Refusal.{Refusal}
 use Rattle.mesh.specs.declared.Marked.{Marked}
 use Rattle.mesh.specs.Mesh.{mesh}
 use Rattle.mesh.specs.Tests.{◌gives◌, first}

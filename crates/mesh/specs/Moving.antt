@@ -1,6 +1,6 @@
 -- Move on: a packet is moved by one hop (document 01, "The four operations"), on either network (document 02, E6). Assumes nothing.
-use Rattle.mesh.specs.declared.Refusal.{Refusal}
 use Rattle.std.specs.Prelude.{◌≡◌, Bool, not, cond, ◌&&◌, List, ◌++◌, ℕ, zero, suc, Option, Some, None, Result, Ok, Err}
+use Rattle.mesh.specs.declared.Refusal.{Refusal}
 use Rattle.mesh.specs.declared.Network.{Network}
 use Rattle.mesh.specs.declared.Packet.{Packet}
 use Rattle.mesh.specs.Mesh.{Mesh, mesh}

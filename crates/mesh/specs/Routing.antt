@@ -1,6 +1,6 @@
 -- Route (document 01, "The four operations"), on either network (document 02, E6). Assumes nothing.
-use Rattle.mesh.specs.declared.Refusal.{Refusal}
 use Rattle.std.specs.Prelude.{◌≡◌, List, [], ◌∷◌, ◌++◌, ℕ, suc, ltb, length, Result, Ok, Err}
+use Rattle.mesh.specs.declared.Refusal.{Refusal}
 use Rattle.mesh.specs.declared.Network.{Network}
 use Rattle.mesh.specs.declared.Place.{Place}
 use Rattle.mesh.specs.Mesh.{Mesh, mesh}

@@ -1,7 +1,7 @@
 -- The turn rules (document 01, "Turns"; rules 1 and 2 of document 001). A turn is named by the hop before and the hop after; its column is
 -- that of the node between them. The columns that permit NW and SW are left open: `west`. Assumes nothing.
-use Rattle.mesh.specs.declared.TurnRule.{TurnRule}
 use Rattle.std.specs.Prelude.{Bool, false, true, not, cond, ◌&&◌, ◌||◌, ℕ, Option, Some, None}
+use Rattle.mesh.specs.declared.TurnRule.{TurnRule}
 use Rattle.mesh.specs.declared.TurnRule.TheVariants.{Rule1, Rule2}
 use Rattle.mesh.specs.Headings.{Heading, E, N, S, W, opposite, same}
 
