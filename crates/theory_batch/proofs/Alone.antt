@@ -1,11 +1,6 @@
 -- A send as if alone: with room for its letters a call of Route does the same whatever is free, so with room for all a table does too. Assumes nothing.
-use mathlib.Core.Path.{◌≡◌, refl, ap}
-use mathlib.Core.Logic.{◌≢◌}
-use mathlib.Core.List.{List, [], ◌∷◌, map}
-use Prim.Native.Nat.{ℕ, zero, suc, ◌*◌, ◌≤◌}
+use Rattle.std.proofs.Common.{◌≡◌, refl, ap, ◌≢◌, List, [], ◌∷◌, map, ℕ, zero, suc, ◌*◌, ◌≤◌, arith, length, drop, length-append, length-drop}
 use native.Mathlib.Decide.{dec_le}
-use native.Mathlib.Omega.{arith}
-use lib.ListN.{length, drop, length-append, length-drop}
 use Rattle.mesh.specs.declared.Heading.{Heading}
 use Rattle.mesh.specs.declared.Network.{Network}
 use Rattle.mesh.specs.Headings.{letters}

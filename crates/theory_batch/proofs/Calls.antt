@@ -1,8 +1,5 @@
 -- Calls of Route, and the sends of a table in turn. Assumes nothing.
-use mathlib.Core.Path.{◌≡◌, refl, ap}
-use mathlib.Core.List.{List, [], ◌∷◌, ◌++◌}
-use Prim.Native.Nat.{ℕ, zero, suc}
-use lib.ListN.{length, drop}
+use Rattle.std.proofs.Common.{◌≡◌, refl, ap, List, [], ◌∷◌, ◌++◌, ℕ, zero, suc, length, drop}
 use Rattle.mesh.specs.Numbers.{written}
 use Rattle.theory_batch.specs.declared.Send.{Send}
 use Rattle.theory_batch.specs.Batch.{Call, unless_refused, calls, answers_of}

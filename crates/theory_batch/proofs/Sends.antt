@@ -1,11 +1,6 @@
 -- The sends of a list: as many as its length holds fours. Assumes nothing.
-use mathlib.Core.Path.{◌≡◌, refl}
-use mathlib.Core.Bool.{false}
-use mathlib.Core.List.{List, [], ◌∷◌}
-use Prim.Native.Nat.{ℕ, ◌*◌, ◌/◌, ◌%◌}
-use native.Mathlib.Omega.{arith}
-use borrow.Author.Tests.{eqb-true, not-false}
-use lib.ListN.{length}
+use Rattle.std.proofs.Common.{◌≡◌, refl, false, List, [], ◌∷◌, ℕ, ◌*◌, ◌/◌, ◌%◌, arith, eqb-true, length}
+use borrow.Author.Tests.{not-false}
 use Rattle.theory_batch.specs.Sends.{sends_of, uneven}
 
 pub sends-length : (xs : List ℕ) → length (sends_of xs) ≡ length xs / 4

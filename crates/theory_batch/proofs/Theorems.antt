@@ -1,18 +1,11 @@
 -- What is shown of a table of sends. Each theorem is proved in the file that its proof cites. Assumes nothing.
-use Rattle.std.specs.Prelude.{Result}
-use Rattle.theory_batch.specs.declared.BatchRefusal.{BatchRefusal}
+use Rattle.std.proofs.Common.{Result, ◌≡◌, refl, sym, ap, ◌∙◌, ◌≢◌, List, [], ◌∷◌, ◌++◌, map, ℕ, suc, ◌*◌, ◌≤◌, ◌<◌, arith, length, get_or, take, drop, length-append, take_at, drop_at, get_or-take}
 use Rattle.mesh.specs.declared.Refusal.{Refusal}
-use mathlib.Core.Path.{◌≡◌, refl, sym, ap, ◌∙◌}
-use mathlib.Core.Logic.{◌≢◌}
-use mathlib.Core.List.{List, [], ◌∷◌, ◌++◌, map}
-use Prim.Native.Nat.{ℕ, suc, ◌*◌, ◌≤◌, ◌<◌}
-use native.Mathlib.Omega.{arith}
-use lib.ListN.{length, get_or, take, drop, length-append}
-use lib.Seq.{take_at, drop_at, get_or-take}
 use Rattle.mesh.specs.declared.Network.{Network}
 use Rattle.mesh.specs.Numbers.{Answer, answer, answer_code, written}
 use Rattle.mesh.specs.Routing.{routed_answer, Routes}
 use Rattle.theory_walk.specs.Claims.{most_hops}
+use Rattle.theory_batch.specs.declared.BatchRefusal.{BatchRefusal}
 use Rattle.theory_batch.specs.declared.Send.{Send}
 use Rattle.theory_batch.specs.Sends.{sends_of}
 use Rattle.theory_batch.specs.Batch.{call, route_call, calls, answers_of, letters_of, batch, batched_answer, batch_refusal, RoutesBatch}

@@ -1,5 +1,4 @@
 -- A whole table of sends in one call (document 02, E2), on either network (E6): what is answered and written. Assumes nothing.
-use Rattle.theory_batch.specs.declared.BatchRefusal.{BatchRefusal}
 use Rattle.std.specs.Prelude.{◌≡◌, ◌||◌, List, [], ◌∷◌, ◌++◌, map, ℕ, zero, suc, ltb, length, drop, Result, Ok, Err}
 use Rattle.mesh.specs.declared.Heading.{Heading}
 use Rattle.mesh.specs.declared.Network.{Network}
@@ -10,6 +9,7 @@ use Rattle.mesh.specs.Numbers.{number, Answer, refused, returned, answer, answer
 use Rattle.mesh.specs.Rounds.{marked}
 use Rattle.mesh.specs.Maps.{map_tests}
 use Rattle.mesh.specs.Routing.{hops_of, route_refusal}
+use Rattle.theory_batch.specs.declared.BatchRefusal.{BatchRefusal}
 use Rattle.theory_batch.specs.declared.Send.{Send}
 use Rattle.theory_batch.specs.declared.BatchRefusal.TheVariants.{Map, NotSends}
 use Rattle.theory_batch.specs.Sends.{sends_of, uneven}

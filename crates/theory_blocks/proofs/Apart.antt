@@ -1,12 +1,8 @@
 -- Rectangles of bad nodes with free rings are apart from each other, and what that says of a list of them. Assumes nothing.
-use mathlib.Core.Path.{◌≡◌, refl, sym, ◌∙◌}
-use mathlib.Core.Logic.{◌⊎◌, inl, inr}
-use mathlib.Core.Bool.{Bool}
+use Rattle.std.proofs.Common.{◌≡◌, refl, sym, ◌∙◌, ◌⊎◌, inl, inr, Bool, List, [], ◌∷◌, ℕ, pred, ◌+◌, ◌<◌, min, max, arith}
 use mathlib.Core.List.Memᴰ
-use mathlib.Core.List.{List, [], ◌∷◌, Memᴰ}
-use Prim.Native.Nat.{ℕ, pred, ◌+◌, ◌<◌, min, max}
+use mathlib.Core.List.{Memᴰ}
 use native.Mathlib.Decide.{dec_le}
-use native.Mathlib.Omega.{arith}
 use Rattle.mesh.specs.Blocks.{Block}
 use Rattle.mesh.proofs.Bools.{true-false}
 use Rattle.theory_blocks.specs.Blocks.{Within, OnRing, Apart, by-east, by-west, by-north, by-south}

@@ -1,12 +1,8 @@
 -- Grow each block by the row south of it and the two columns west of it: the grown blocks share no place and leave the mesh's last row and last
 -- two columns free, and no block's detour exceeds the places of the grown one. Assumes nothing.
-use mathlib.Core.Path.{◌≡◌, refl}
-use mathlib.Core.Bool.{Bool, true, false}
+use Rattle.std.proofs.Common.{◌≡◌, refl, Bool, true, false, List, [], ◌∷◌, ℕ, zero, suc, ◌+◌, ◌-◌, ◌*◌, ◌≤◌, ◌<◌, arith}
 use mathlib.Core.List.Memᴰ
-use mathlib.Core.List.{List, [], ◌∷◌}
-use Prim.Native.Nat.{ℕ, zero, suc, ◌+◌, ◌-◌, ◌*◌, ◌≤◌, ◌<◌}
 use native.Mathlib.Decide.{dec_le}
-use native.Mathlib.Omega.{arith}
 use Rattle.mesh.specs.Blocks.{Block, reaches}
 use Rattle.mesh.specs.Walk.{detours}
 use Rattle.theory_blocks.specs.Blocks.{Within, Fits, Apart, by-east, by-west, by-north, by-south}

@@ -1,11 +1,6 @@
 -- Connected sets of bad nodes: a rectangle with a free ring is a block, and blocks that share a node are the same. Assumes nothing.
-use mathlib.Core.Path.{◌≡◌}
-use mathlib.Core.Logic.{◌↔◌, inl, inr}
-use mathlib.Core.Bool.{Bool, true}
-use mathlib.Core.List.{List}
-use Prim.Native.Nat.{ℕ, suc, ◌≤◌}
+use Rattle.std.proofs.Common.{◌≡◌, ◌↔◌, inl, inr, Bool, true, List, ℕ, suc, ◌≤◌, arith}
 use native.Mathlib.Decide.{le_ind}
-use native.Mathlib.Omega.{arith}
 use Rattle.mesh.specs.Blocks.{Block, reaches}
 use Rattle.mesh.proofs.Bools.{true-false, value}
 use Rattle.theory_blocks.specs.Blocks.{Neighbour, north, south, east, west, Joined, here, go, Unjoined, IsBlock, Within, Apart}

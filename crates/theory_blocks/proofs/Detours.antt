@@ -1,8 +1,5 @@
 -- The bound on the detours round all blocks: their grown blocks have room on a mesh without its last row and its last two columns. Assumes nothing.
-use mathlib.Core.Bool.{Bool}
-use mathlib.Core.List.{List}
-use Prim.Native.Nat.{ℕ, ◌-◌, ◌*◌, ◌≤◌}
-use native.Mathlib.Omega.{arith}
+use Rattle.std.proofs.Common.{Bool, List, ℕ, ◌-◌, ◌*◌, ◌≤◌, arith}
 use Rattle.mesh.specs.Blocks.{Block}
 use Rattle.mesh.specs.Walk.{detours}
 use Rattle.theory_blocks.specs.Obstacles.{Obstacles}

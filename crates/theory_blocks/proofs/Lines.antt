@@ -1,11 +1,8 @@
 -- Runs of bad nodes along one line, and along lines side by side. Assumes nothing.
-use mathlib.Core.Path.{◌≡◌, refl, sym, ◌∙◌}
-use mathlib.Core.Logic.{inl, inr}
-use mathlib.Core.Bool.{Bool, true, false, ◌&&◌, and-true}
-use Prim.Native.Nat.{ℕ, zero, suc, ◌+◌, ◌-◌, ◌≤◌, ◌<◌}
+use Rattle.std.proofs.Common.{◌≡◌, refl, sym, ◌∙◌, inl, inr, Bool, true, false, ◌&&◌, ℕ, zero, suc, ◌+◌, ◌-◌, ◌≤◌, ◌<◌, arith, le-leb}
+use mathlib.Core.Bool.{and-true}
 use native.Mathlib.Decide.{dec_lt, dec_le, le_ind}
-use native.Mathlib.Omega.{arith}
-use borrow.Author.Tests.{le-leb, lt-leb}
+use borrow.Author.Tests.{lt-leb}
 use Rattle.mesh.specs.Blocks.{run}
 use Rattle.mesh.proofs.Bools.{true-false, value}
 use Rattle.theory_blocks.proofs.Rules.{before}

@@ -1,10 +1,6 @@
 -- The list of blocks of a mesh whose marking no rule adds to: rectangles with free rings, which hold every bad node. Assumes nothing.
-use mathlib.Core.Path.{◌≡◌}
-use mathlib.Core.Bool.{Bool, true}
-use Prim.Native.Nat.{ℕ, ◌+◌, ◌*◌, ◌/◌, ◌%◌, ◌≤◌}
-use native.Mathlib.Omega.{arith}
+use Rattle.std.proofs.Common.{◌≡◌, Bool, true, ℕ, ◌+◌, ◌*◌, ◌/◌, ◌%◌, ◌≤◌, arith, length}
 use borrow.Author.Tests.{not-true}
-use lib.ListN.{length}
 use Rattle.mesh.specs.Mesh.{Mesh}
 use Rattle.mesh.specs.Nodes.{bad, ahead}
 use Rattle.mesh.specs.Blocks.{Block, corner, block_at, blocks}

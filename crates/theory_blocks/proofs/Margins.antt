@@ -1,8 +1,5 @@
 -- The places where faults are allowed are closed, so the marking of allowed faults keeps to them and every ring fits the mesh. Assumes nothing.
-use mathlib.Core.Path.{◌≡◌}
-use mathlib.Core.Bool.{Bool, true}
-use Prim.Native.Nat.{ℕ, suc, pred, ◌+◌}
-use native.Mathlib.Omega.{arith}
+use Rattle.std.proofs.Common.{◌≡◌, Bool, true, ℕ, suc, pred, ◌+◌, arith}
 use Rattle.mesh.specs.Blocks.{Block}
 use Rattle.mesh.specs.Maps.{allowed}
 use Rattle.mesh.proofs.Maps.{allowed-told, allowed-true}

@@ -1,11 +1,6 @@
 -- Refusal 8: some block has a node in a place's row, one or two columns away, exactly if one of four nodes of the row is bad; and exactly if
 -- the place is on a side of a ring. Assumes nothing.
-use mathlib.Core.Path.{◌≡◌, sym, ◌∙◌}
-use mathlib.Core.Logic.{◌↔◌, inl, inr}
-use mathlib.Core.Bool.{Bool, true, false}
-use mathlib.Core.List.{List}
-use Prim.Native.Nat.{ℕ, pred, ◌+◌, ◌≤◌, min, max}
-use native.Mathlib.Omega.{arith}
+use Rattle.std.proofs.Common.{◌≡◌, sym, ◌∙◌, ◌↔◌, inl, inr, Bool, true, false, List, ℕ, pred, ◌+◌, ◌≤◌, min, max, arith}
 use Rattle.mesh.specs.Nodes.{ahead, near_in_row}
 use Rattle.mesh.specs.Blocks.{Block, within, some_block}
 use Rattle.mesh.proofs.Bools.{true-false, value, or_cases, bool-ext}

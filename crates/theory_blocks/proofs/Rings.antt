@@ -1,12 +1,8 @@
 -- A block's nodes, its ring and the blocks of a list, told by Bools and by records: each from the other. Assumes nothing.
-use mathlib.Core.Path.{◌≡◌, refl}
-use mathlib.Core.Logic.{inl, inr}
-use mathlib.Core.Bool.{Bool, true, false, or-true}
+use Rattle.std.proofs.Common.{◌≡◌, refl, inl, inr, Bool, true, false, List, [], ◌∷◌, ℕ, arith, leb-true, ltb-true, le-leb, lt-ltb}
+use mathlib.Core.Bool.{or-true}
 use mathlib.Core.List.Memᴰ
-use mathlib.Core.List.{List, [], ◌∷◌}
-use Prim.Native.Nat.{ℕ}
-use native.Mathlib.Omega.{arith}
-use borrow.Author.Tests.{leb-true, ltb-true, le-leb, lt-ltb, not-true}
+use borrow.Author.Tests.{not-true}
 use Rattle.mesh.specs.Blocks.{Block, reaches, on_ring, some_block}
 use Rattle.mesh.proofs.Bools.{true-false, value, and_both, or_cases}
 use Rattle.theory_blocks.specs.Blocks.{Reaches, OnRing}

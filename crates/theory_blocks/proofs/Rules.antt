@@ -1,13 +1,7 @@
 -- The rules that make a node unsafe, told by places, and what a marking that no rule adds to looks like in two rows. Assumes nothing.
-use mathlib.Core.Path.{◌≡◌, refl}
-use mathlib.Core.Logic.{inl, inr}
-use mathlib.Core.Bool.{Bool, true, false, ◌&&◌, ◌||◌, and_comm, or-true}
-use Prim.Native.Nat.{ℕ, suc, ◌+◌, ◌-◌, ◌≤◌, ◌<◌}
-use native.Mathlib.Numerals.{add-one}
+use Rattle.std.proofs.Common.{◌≡◌, refl, inl, inr, Bool, true, false, ◌&&◌, ◌||◌, ℕ, suc, ◌+◌, ◌-◌, ◌≤◌, ◌<◌, add-one, arith, leb-true, le-leb, leb}
+use mathlib.Core.Bool.{and_comm, or-true}
 use native.Mathlib.Decide.{dec_lt, dec_le}
-use native.Mathlib.Omega.{arith}
-use borrow.Author.Tests.{leb-true, le-leb}
-use lib.Dec.{leb}
 use Rattle.mesh.specs.Nodes.{ahead, upright, rule_a, rule_b, unsafe}
 use Rattle.mesh.proofs.Bools.{true-false, value, and_both, and_intro, or_cases, bool-ext}
 use Rattle.theory_blocks.specs.Marking.{Closed, NoneBeyond, Holds}

@@ -1,13 +1,8 @@
 -- What a list of selected values holds. Assumes nothing.
-use mathlib.Core.Path.{◌≡◌, refl}
-use mathlib.Core.Logic.{inl, inr}
-use mathlib.Core.Bool.{Bool, true}
+use Rattle.std.proofs.Common.{◌≡◌, refl, inl, inr, Bool, true, ℕ, zero, suc, ◌+◌, ◌≤◌, ◌<◌, arith, length}
 use mathlib.Core.List.Memᴰ
 use mathlib.Core.List.{Memᴰ}
-use Prim.Native.Nat.{ℕ, zero, suc, ◌+◌, ◌≤◌, ◌<◌}
 use native.Mathlib.Decide.{dec_lt}
-use native.Mathlib.Omega.{arith}
-use lib.ListN.{length}
 use Rattle.mesh.specs.Blocks.{select}
 use Rattle.mesh.proofs.Bools.{value}
 use Rattle.theory_blocks.specs.Obstacles.{Pairs, none, more}

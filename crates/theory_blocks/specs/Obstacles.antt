@@ -1,6 +1,6 @@
 -- All that routing sees of a marking: a list of rectangles of bad nodes, with nothing bad in their rings. Assumes nothing.
-use Rattle.std.specs.Prelude.{◌≡◌, ◌↔◌, Bool, true, false, ℕ, ◌<◌}
-use mathlib.Core.List.{List, [], ◌∷◌, Memᴰ}
+use Rattle.std.specs.Prelude.{◌≡◌, ◌↔◌, Bool, true, false, ℕ, ◌<◌, List, [], ◌∷◌}
+use mathlib.Core.List.{Memᴰ}
 use Rattle.mesh.specs.Mesh.{Mesh}
 use Rattle.mesh.specs.Nodes.{bad}
 use Rattle.mesh.specs.Blocks.{Block, blocks}

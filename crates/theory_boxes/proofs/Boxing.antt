@@ -1,12 +1,6 @@
 -- What stands in the list after a call that keeps its promise, and when a call keeps it. Assumes nothing.
-use Rattle.std.specs.Prelude.{Result, Ok}
+use Rattle.std.proofs.Common.{Result, Ok, ◌≡◌, sym, ◌∙◌, List, append_assoc, ℕ, suc, ◌*◌, ◌≤◌, ◌<◌, arith, length, get_or, take, take_at}
 use Rattle.mesh.specs.declared.Refusal.{Refusal}
-use mathlib.Core.Path.{◌≡◌, sym, ◌∙◌}
-use mathlib.Core.List.{List, append_assoc}
-use Prim.Native.Nat.{ℕ, suc, ◌*◌, ◌≤◌, ◌<◌}
-use native.Mathlib.Omega.{arith}
-use lib.ListN.{length, get_or, take}
-use lib.Seq.{take_at}
 use Rattle.mesh.specs.Mesh.{mesh}
 use Rattle.mesh.specs.Tests.{first}
 use Rattle.mesh.specs.Numbers.{answer, written}

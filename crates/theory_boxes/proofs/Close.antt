@@ -1,11 +1,5 @@
 -- Boxes that are close, told by their numbers, and the box around two. Assumes nothing.
-use mathlib.Core.Path.{◌≡◌}
-use mathlib.Core.Logic.{inl, inr}
-use mathlib.Core.Bool.{true, false}
-use Prim.Native.Nat.{ℕ, ◌+◌, ◌-◌, ◌≤◌, ◌<◌, max}
-use native.Mathlib.Omega.{arith}
-use borrow.Author.Tests.{ltb-true, lt-ltb}
-use lib.Dec.{ltb}
+use Rattle.std.proofs.Common.{◌≡◌, inl, inr, true, false, ℕ, ◌+◌, ◌-◌, ◌≤◌, ◌<◌, max, arith, ltb-true, lt-ltb, ltb}
 use Rattle.mesh.proofs.Bools.{true-false, value, and_both, and_intro, bool-ext}
 use Rattle.theory_boxes.specs.Boxes.{Box, apart, columns_apart, rows_apart, close, around}
 

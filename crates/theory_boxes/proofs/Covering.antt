@@ -1,13 +1,8 @@
 -- The nodes of boxes that are far from each other are a marking that no rule adds to. Assumes nothing.
-use mathlib.Core.Path.{◌≡◌, refl}
-use mathlib.Core.Logic.{inl, inr}
-use mathlib.Core.Bool.{Bool, true, false, ◌&&◌, ◌||◌, or-true}
+use Rattle.std.proofs.Common.{◌≡◌, refl, inl, inr, Bool, true, false, ◌&&◌, ◌||◌, List, [], ◌∷◌, ℕ, suc, ◌+◌, ◌≤◌, min, max, arith, leb-true, le-leb, leb}
+use mathlib.Core.Bool.{or-true}
 use mathlib.Core.List.Memᴰ
-use mathlib.Core.List.{List, [], ◌∷◌, Memᴰ}
-use Prim.Native.Nat.{ℕ, suc, ◌+◌, ◌≤◌, min, max}
-use native.Mathlib.Omega.{arith}
-use borrow.Author.Tests.{leb-true, le-leb}
-use lib.Dec.{leb}
+use mathlib.Core.List.{Memᴰ}
 use Rattle.mesh.proofs.Bools.{true-false, and_both, or_cases}
 use Rattle.theory_blocks.specs.Marking.{Closed}
 use Rattle.theory_blocks.specs.Obstacles.{Pairs}

@@ -1,11 +1,5 @@
 -- By lowest row, then lowest column: which of two boxes is earlier, and that this is an order. Assumes nothing.
-use mathlib.Core.Path.{◌≡◌, refl, sym}
-use mathlib.Core.Logic.{inl, inr}
-use mathlib.Core.Bool.{Bool, true, false, ◌&&◌}
-use Prim.Native.Nat.{◌≤◌, ◌<◌}
-use native.Mathlib.Omega.{arith}
-use borrow.Author.Tests.{ltb-true, ltb-false, lt-ltb, eqb-true, eq-eqb}
-use lib.Dec.{ltb, eqb}
+use Rattle.std.proofs.Common.{◌≡◌, refl, sym, inl, inr, Bool, true, false, ◌&&◌, ◌≤◌, ◌<◌, arith, ltb-true, ltb-false, lt-ltb, eqb-true, eq-eqb, ltb, eqb}
 use Rattle.mesh.proofs.Bools.{value, and_both, and_right, or_cases, or-none}
 use Rattle.theory_boxes.specs.Boxes.{Box, earlier}
 

@@ -1,13 +1,6 @@
 -- The boxes of the faults of a map. Assumes nothing.
-use mathlib.Core.Path.{◌≡◌, refl}
-use mathlib.Core.Logic.{inl, inr}
-use mathlib.Core.Bool.{Bool, true}
-use mathlib.Core.List.{List, [], ◌∷◌, Memᴰ}
-use Prim.Native.Nat.{ℕ, zero, suc, ◌+◌, ◌*◌, ◌/◌, ◌%◌, ◌≤◌, ◌<◌}
-use native.Mathlib.Nat.{zero-add, add-zero, add-suc, suc-add}
-use native.Mathlib.Omega.{arith}
-use lib.Dec.{eqb}
-use lib.ListN.{length, get_or}
+use Rattle.std.proofs.Common.{◌≡◌, refl, inl, inr, Bool, true, List, [], ◌∷◌, ℕ, zero, suc, ◌+◌, ◌*◌, ◌/◌, ◌%◌, ◌≤◌, ◌<◌, zero-add, add-zero, add-suc, suc-add, arith, eqb, length, get_or}
+use mathlib.Core.List.{Memᴰ}
 use Rattle.mesh.specs.Mesh.{Mesh, mesh, on_mesh}
 use Rattle.mesh.specs.Nodes.{is_bad, how_many, bad}
 use Rattle.mesh.specs.Blocks.{select}

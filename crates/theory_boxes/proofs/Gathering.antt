@@ -1,11 +1,8 @@
 -- What merging keeps, in whatever order: boxes lie in the blocks in which they lay, and enclose those that they replace. Assumes nothing.
-use mathlib.Core.Path.{◌≡◌, refl}
-use mathlib.Core.Logic.{◌⊎◌, inl, inr}
+use Rattle.std.proofs.Common.{◌≡◌, refl, ◌⊎◌, inl, inr, List, ◌∷◌, ◌≤◌, arith}
 use mathlib.Core.List.Memᴰ
 use mathlib.Core.List.Permᴰ
-use mathlib.Core.List.{List, ◌∷◌, Memᴰ}
-use Prim.Native.Nat.{◌≤◌}
-use native.Mathlib.Omega.{arith}
+use mathlib.Core.List.{Memᴰ}
 use Rattle.mesh.specs.Blocks.{Block}
 use Rattle.theory_blocks.specs.Blocks.{Within, Apart, by-east, by-west, by-north, by-south}
 use Rattle.theory_blocks.specs.Obstacles.{Listed, Pairs}

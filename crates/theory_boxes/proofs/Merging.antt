@@ -1,12 +1,6 @@
 -- The merging of the definitions: each time two close boxes are replaced, and at the end none are close. Assumes nothing.
-use mathlib.Core.Path.{◌≡◌, refl}
-use mathlib.Core.Logic.{inl, inr}
-use mathlib.Core.Bool.{Bool, true, false, cond}
+use Rattle.std.proofs.Common.{◌≡◌, refl, inl, inr, Bool, true, false, cond, List, [], ◌∷◌, ℕ, zero, suc, ◌≤◌, arith, length}
 use mathlib.Core.List.Permᴰ
-use mathlib.Core.List.{List, [], ◌∷◌}
-use Prim.Native.Nat.{ℕ, zero, suc, ◌≤◌}
-use native.Mathlib.Omega.{arith}
-use lib.ListN.{length}
 use Rattle.mesh.proofs.Bools.{true-false, value}
 use Rattle.theory_boxes.specs.Boxes.{Box, close, close_to, some_close, joined, merge_two, merge_all}
 use Rattle.theory_boxes.specs.Merging.{Replaced, Merges, begin, again}

@@ -1,13 +1,8 @@
 -- Lists of boxes in any order, and merging in any order: what is done first and what after, and beside other boxes. Assumes nothing.
-use mathlib.Core.Path.{◌≡◌, refl, ◌∙◌, ap}
-use mathlib.Core.Logic.{inl, inr}
-use mathlib.Core.Bool.{true}
+use Rattle.std.proofs.Common.{◌≡◌, refl, ◌∙◌, ap, inl, inr, true, List, ◌∷◌, ◌++◌, suc, ◌≤◌, arith, length}
 use mathlib.Core.List.Memᴰ
 use mathlib.Core.List.Permᴰ
-use mathlib.Core.List.{List, ◌∷◌, ◌++◌, Memᴰ}
-use Prim.Native.Nat.{suc, ◌≤◌}
-use native.Mathlib.Omega.{arith}
-use lib.ListN.{length}
+use mathlib.Core.List.{Memᴰ}
 use Rattle.theory_boxes.specs.Boxes.{Box, close, around}
 use Rattle.theory_boxes.specs.Merging.{Reordered, Replaced, Merges, begin, again}
 

@@ -1,10 +1,8 @@
 -- Sorting by lowest row, then lowest column: the same boxes, each before the later ones; and no two such lists have the same boxes. Assumes nothing.
-use mathlib.Core.Path.{◌≡◌, refl, sym}
-use mathlib.Core.Logic.{◌⊎◌, inl, inr}
-use mathlib.Core.Bool.{true, false}
+use Rattle.std.proofs.Common.{◌≡◌, refl, sym, ◌⊎◌, inl, inr, true, false, List, [], ◌∷◌}
 use mathlib.Core.List.Memᴰ
 use mathlib.Core.List.Permᴰ
-use mathlib.Core.List.{List, [], ◌∷◌, Memᴰ}
+use mathlib.Core.List.{Memᴰ}
 use Rattle.mesh.proofs.Bools.{value}
 use Rattle.theory_blocks.specs.Obstacles.{Pairs, none, more}
 use Rattle.theory_boxes.specs.Boxes.{Box, earlier, insert, sorted}

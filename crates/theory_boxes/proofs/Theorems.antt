@@ -1,13 +1,7 @@
 -- What is shown of blocks from rectangles (document 02, E10). Each theorem is proved in the file that its proof cites. Assumes nothing.
-use Rattle.std.specs.Prelude.{Result}
+use Rattle.std.proofs.Common.{Result, ◌≡◌, ap, sym, ◌∙◌, ◌↔◌, true, false, List, map, ℕ, suc, ◌*◌, ◌≤◌, ◌<◌, arith, length, get_or, take}
+use lib.ListN.{length-map}
 use Rattle.mesh.specs.declared.Refusal.{Refusal}
-use mathlib.Core.Path.{◌≡◌, ap, sym, ◌∙◌}
-use mathlib.Core.Logic.{◌↔◌}
-use mathlib.Core.Bool.{true, false}
-use mathlib.Core.List.{List, map}
-use Prim.Native.Nat.{ℕ, suc, ◌*◌, ◌≤◌, ◌<◌}
-use native.Mathlib.Omega.{arith}
-use lib.ListN.{length, get_or, take, length-map}
 use Rattle.mesh.specs.Mesh.{Mesh, mesh}
 use Rattle.mesh.specs.Tests.{first}
 use Rattle.mesh.specs.Nodes.{how_many}

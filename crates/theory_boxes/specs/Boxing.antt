@@ -1,6 +1,6 @@
 -- Blocks from rectangles (document 02, E10): what is answered and written. Assumes nothing.
-use Rattle.mesh.specs.declared.Refusal.{Refusal}
 use Rattle.std.specs.Prelude.{◌≡◌, List, [], ◌∷◌, ◌++◌, ℕ, ◌-◌, ◌*◌, ltb, length, replicate, Result, Ok, Err}
+use Rattle.mesh.specs.declared.Refusal.{Refusal}
 use Rattle.mesh.specs.Mesh.{Mesh, mesh}
 use Rattle.mesh.specs.Tests.{◌gives◌, first}
 use Rattle.mesh.specs.Numbers.{number, Answer, refused, returned, answer, written}

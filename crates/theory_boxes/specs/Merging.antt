@@ -1,6 +1,6 @@
 -- Merging in any order: whatever two close boxes are replaced next, and wherever the boxes stand in the list. Assumes nothing.
-use Rattle.std.specs.Prelude.{◌≡◌, true}
-use mathlib.Core.List.{List, ◌∷◌, Permᴰ}
+use Rattle.std.specs.Prelude.{◌≡◌, true, List, ◌∷◌}
+use mathlib.Core.List.{Permᴰ}
 use Rattle.theory_boxes.specs.Boxes.{Box, close, around}
 
 -- the same boxes, each as often, in any order

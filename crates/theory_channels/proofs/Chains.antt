@@ -1,6 +1,5 @@
 -- Chains of steps: one whose steps raise a number never comes back. Assumes nothing.
-use Prim.Native.Nat.{ℕ, ◌<◌}
-use native.Mathlib.Omega.{arith}
+use Rattle.std.proofs.Common.{ℕ, ◌<◌, arith}
 use Rattle.theory_channels.specs.Chains.{Chain, one, more, NoRing}
 
 module _ {A : Type 0} {Step : A → A → Type 0} where

@@ -1,9 +1,5 @@
 -- A channel's ends, its reverse, and what may follow it. Assumes nothing.
-use Rattle.std.specs.Prelude.{Some}
-use mathlib.Core.Path.{◌≡◌}
-use mathlib.Core.Logic.{◌≢◌, inl, inr}
-use mathlib.Core.Bool.{Bool, true, false}
-use Prim.Native.Nat.{ℕ, ◌<◌}
+use Rattle.std.proofs.Common.{Some, ◌≡◌, ◌≢◌, inl, inr, Bool, true, false, ℕ, ◌<◌}
 use borrow.Author.Tests.{not-true}
 use Rattle.mesh.specs.Mesh.{Mesh, on_mesh}
 use Rattle.mesh.specs.declared.Heading.{Heading}

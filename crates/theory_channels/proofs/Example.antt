@@ -1,7 +1,6 @@
 -- What judging is for: four hand-ins round a square on map A of document 01, one of which makes a forbidden turn, do wait in a ring. Assumes nothing.
-use mathlib.Core.Path.{◌≡◌, refl}
-use mathlib.Core.List.{List, [], ◌∷◌, Memᴰ}
-use Prim.Native.Nat.{ℕ}
+use Rattle.std.proofs.Common.{◌≡◌, refl, List, [], ◌∷◌, ℕ}
+use mathlib.Core.List.{Memᴰ}
 use Rattle.mesh.specs.declared.Network.{Network}
 use Rattle.mesh.specs.declared.Network.TheVariants.{First, Second}
 use Rattle.mesh.specs.Mesh.{place, on_mesh}

@@ -1,10 +1,8 @@
 -- A member of a list whose number no other member's exceeds. Assumes nothing.
-use mathlib.Core.Path.{refl}
+use Rattle.std.proofs.Common.{refl, List, [], ◌∷◌, ℕ, ◌≤◌, ◌<◌, arith}
 use mathlib.Core.List.Memᴰ
-use mathlib.Core.List.{List, [], ◌∷◌, Memᴰ}
-use Prim.Native.Nat.{ℕ, ◌≤◌, ◌<◌}
+use mathlib.Core.List.{Memᴰ}
 use native.Mathlib.Decide.{dec_lt}
-use native.Mathlib.Omega.{arith}
 
 module _ {A : Type 0} (f : A → ℕ) where
   pub record Highest (xs : List A) : Type 0 where

@@ -1,8 +1,7 @@
 -- Lists in which each member is a step before the next. Assumes nothing.
-use mathlib.Core.Path.{refl}
-use mathlib.Core.Logic.{◌≢◌}
+use Rattle.std.proofs.Common.{refl, ◌≢◌, List, [], ◌∷◌, ◌++◌}
 use mathlib.Core.List.Memᴰ
-use mathlib.Core.List.{List, [], ◌∷◌, ◌++◌, Memᴰ}
+use mathlib.Core.List.{Memᴰ}
 use Rattle.theory_blocks.specs.Obstacles.{Pairs, none, more as later}
 use Rattle.theory_channels.specs.Chains.{Chain, one, more, NoRing}
 

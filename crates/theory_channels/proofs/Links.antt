@@ -1,11 +1,5 @@
 -- Channels are the links between neighbouring nodes, one each way. Assumes nothing.
-use mathlib.Core.Path.{◌≡◌, refl}
-use mathlib.Core.Logic.{◌↔◌}
-use mathlib.Core.Bool.{true}
-use Prim.Native.Nat.{ℕ, zero, suc, ◌<◌}
-use native.Mathlib.Numerals.{add-one, sub-one}
-use native.Mathlib.Omega.{arith}
-use borrow.Author.Tests.{leb-true, le-leb, lt-ltb}
+use Rattle.std.proofs.Common.{◌≡◌, refl, ◌↔◌, true, ℕ, zero, suc, ◌<◌, add-one, sub-one, arith, leb-true, le-leb, lt-ltb}
 use Rattle.mesh.specs.Mesh.{Mesh}
 use Rattle.mesh.specs.declared.Heading.{Heading}
 use Rattle.mesh.specs.declared.Heading.TheVariants.{East as E, North as N, South as S, West as W}

@@ -1,7 +1,6 @@
 -- Hand-ins on one mesh and map, all passed on one network: on their routes each channel may follow the one before it, and waiting leads on. Assumes
 -- nothing.
-use mathlib.Core.List.{List, ◌∷◌, ◌++◌}
-use Prim.Native.Nat.{ℕ}
+use Rattle.std.proofs.Common.{List, ◌∷◌, ◌++◌, ℕ}
 use Rattle.mesh.specs.declared.Network.{Network}
 use Rattle.mesh.specs.Mesh.{mesh}
 use Rattle.mesh.specs.Parity.{turns_west}

@@ -1,9 +1,5 @@
 -- The channels of lawful hops, and of a passed hand-in's route: each may follow the one before it. Assumes nothing.
-use Rattle.std.specs.Prelude.{Some}
-use mathlib.Core.Path.{◌≡◌, refl, sym, ◌∙◌}
-use mathlib.Core.Bool.{true}
-use mathlib.Core.List.{List, [], ◌∷◌}
-use Prim.Native.Nat.{ℕ}
+use Rattle.std.proofs.Common.{Some, ◌≡◌, refl, sym, ◌∙◌, true, List, [], ◌∷◌, ℕ}
 use Rattle.mesh.specs.declared.Network.{Network}
 use Rattle.mesh.specs.Mesh.{mesh}
 use Rattle.mesh.specs.declared.Heading.{Heading}

@@ -1,13 +1,8 @@
 -- How many hops the stages of `Rank` have room for. Assumes nothing.
-use Rattle.std.specs.Prelude.{Option, Some, None}
+use Rattle.std.proofs.Common.{Option, Some, None, ◌≡◌, refl, ◌∙◌, inl, inr, Bool, true, false, not, cond, ◌&&◌, ◌||◌, ℕ, zero, suc, ◌+◌, ◌-◌, ◌*◌, ◌≤◌, ◌<◌, arith, le-leb, leb}
+use mathlib.Core.Bool.{or-true}
+use borrow.Author.Tests.{lt-leb}
 use Rattle.mesh.specs.declared.Heading.{Heading}
-use mathlib.Core.Path.{◌≡◌, refl, ◌∙◌}
-use mathlib.Core.Logic.{inl, inr}
-use mathlib.Core.Bool.{Bool, true, false, not, cond, ◌&&◌, ◌||◌, or-true}
-use Prim.Native.Nat.{ℕ, zero, suc, ◌+◌, ◌-◌, ◌*◌, ◌≤◌, ◌<◌}
-use native.Mathlib.Omega.{arith}
-use borrow.Author.Tests.{le-leb, lt-leb}
-use lib.Dec.{leb}
 use Rattle.mesh.specs.declared.Heading.TheVariants.{East as E, North as N, South as S, West as W}
 use Rattle.mesh.specs.Rules.{Trip}
 use Rattle.mesh.proofs.Bools.{value}

@@ -1,13 +1,6 @@
 -- What is shown of channels, of packets that wait for them, and of how long a lawful walk can be (document 02, E9). Each theorem is proved in the
 -- file that its proof cites. Example has hand-ins that do wait in a ring. Assumes nothing.
-use Rattle.std.specs.Prelude.{Option, Some}
-use mathlib.Core.Path.{◌≡◌}
-use mathlib.Core.Logic.{◌↔◌, ◌≢◌}
-use mathlib.Core.Bool.{Bool, true}
-use mathlib.Core.List.{List, [], ◌∷◌}
-use Prim.Native.Nat.{ℕ, ◌*◌, ◌≤◌, ◌<◌}
-use native.Mathlib.Omega.{arith}
-use lib.ListN.{length, replicate}
+use Rattle.std.proofs.Common.{Option, Some, ◌≡◌, ◌↔◌, ◌≢◌, Bool, true, List, [], ◌∷◌, ℕ, ◌*◌, ◌≤◌, ◌<◌, arith, length, replicate}
 use Rattle.mesh.specs.declared.Network.{Network}
 use Rattle.mesh.specs.Mesh.{Mesh, mesh}
 use Rattle.mesh.specs.declared.Heading.{Heading}

@@ -4,8 +4,8 @@
 -- middle; one bound east goes on from the middle to the last column again. In a column that permits NW and SW the hops N and S belong to packets
 -- bound west, in any other to packets bound east. Then no permitted hop leads to an earlier stage, and one that stays at its stage climbs: it
 -- leads further along the column (`hop-is-later`). Assumes nothing.
-use Rattle.mesh.specs.declared.Heading.{Heading}
 use Rattle.std.specs.Prelude.{◌≡◌, Bool, cond, ℕ, suc, ◌+◌, ◌-◌, ◌*◌, ◌≤◌, ◌<◌, Option, Some, None}
+use Rattle.mesh.specs.declared.Heading.{Heading}
 use Rattle.mesh.specs.declared.Heading.TheVariants.{East as E, North as N, South as S, West as W}
 use Rattle.mesh.specs.Mesh.{Mesh}
 use Rattle.mesh.specs.Hops.{At}

@@ -1,7 +1,7 @@
 -- Packets that hold channels of their routes and wait for further ones (document 02, E9). Assumes nothing.
+use Rattle.std.specs.Prelude.{◌≡◌, ℕ, Option, Some, None, List, [], ◌∷◌, ◌++◌}
+use mathlib.Core.List.{Memᴰ}
 use Rattle.mesh.specs.declared.Heading.{Heading}
-use Rattle.std.specs.Prelude.{◌≡◌, ℕ, Option, Some, None}
-use mathlib.Core.List.{List, [], ◌∷◌, ◌++◌, Memᴰ}
 use Rattle.mesh.specs.declared.Network.{Network}
 use Rattle.mesh.specs.declared.Place.{Place}
 use Rattle.mesh.specs.Headings.{named}

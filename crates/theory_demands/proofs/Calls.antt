@@ -1,15 +1,6 @@
 -- A whole list of calls of Move on, on a request's fresh packet. Assumes nothing.
-use mathlib.Core.Path.{◌≡◌, refl, ap, sym, ◌∙◌}
-use mathlib.Core.Bool.{true, false}
-use mathlib.Core.List.{List, [], ◌∷◌}
-use mathlib.Core.Logic.{◌↔◌, inl, inr}
-use Prim.Native.Nat.{ℕ, zero, suc, ◌≤◌, ◌<◌}
+use Rattle.std.proofs.Common.{◌≡◌, refl, ap, sym, ◌∙◌, true, false, List, [], ◌∷◌, ◌↔◌, inl, inr, ℕ, zero, suc, ◌≤◌, ◌<◌, arith, eqb-true, eq-eqb, eqb, length, get_or, drop, drop_of_length-le, drop-cons}
 use native.Mathlib.Decide.{dec_le}
-use native.Mathlib.Omega.{arith}
-use borrow.Author.Tests.{eqb-true, eq-eqb}
-use lib.Dec.{eqb}
-use lib.ListN.{length, get_or, drop, drop_of_length-le}
-use lib.Seq.{drop-cons}
 use Rattle.mesh.specs.declared.Heading.{Heading}
 use Rattle.mesh.specs.declared.Heading.TheVariants.{East as E}
 use Rattle.mesh.specs.declared.Packet.{Packet}
@@ -24,8 +15,8 @@ use Rattle.mesh.specs.Walk.{hop_at}
 use Rattle.mesh.specs.Moving.{hopped, there, moved_told, MovesOn}
 use Rattle.mesh.proofs.Lists.{same-eq, same_refl}
 use Rattle.mesh.proofs.Bools.{true-false, value, and_both}
-use Rattle.theory_walk.specs.Claims.{reached, Hops}
 use Rattle.theory_judging.specs.Claims.{trip_to}
+use Rattle.theory_walk.specs.Claims.{reached, Hops}
 use Rattle.theory_demands.specs.Demand3.{Call, Keeps, Refused, letters_then_arrived, is_same, Calls, no-calls, same, other, same_answers, hops, record_at, Goes, no_more, letter-next, arrived-now, refused-now}
 use Rattle.theory_demands.proofs.Requests.{Clear}
 use Rattle.theory_demands.proofs.Hops.{way}

@@ -1,11 +1,6 @@
 -- The premise of demand 3 can be met: it is by every case that is a route, on either network. Assumes nothing.
-use mathlib.Core.Bool.{Bool, true, false, ◌&&◌}
-use mathlib.Core.List.{List, [], ◌∷◌}
-use Prim.Native.Nat.{ℕ, zero, suc, ◌<◌}
+use Rattle.std.proofs.Common.{Bool, true, false, ◌&&◌, List, [], ◌∷◌, ℕ, zero, suc, ◌<◌, arith, T, eqb, eqb→eq, length, get_or, replicate}
 use Prim.Native.String.{String}
-use native.Mathlib.Omega.{arith}
-use lib.Dec.{T, eqb, eqb→eq}
-use lib.ListN.{length, get_or, replicate}
 use Rattle.mesh.specs.declared.Network.{Network}
 use Rattle.mesh.specs.declared.Network.TheVariants.{First, Second}
 use Rattle.mesh.specs.Cases.{fault_map, Case, routes, place, refusal, holds, all_hold, A, starred, starred-hold, second, second-hold}

@@ -1,9 +1,5 @@
 -- The hops of a request that refusals 1 to 9 let pass. Assumes nothing.
-use mathlib.Core.Path.{◌≡◌}
-use mathlib.Core.List.{List}
-use Prim.Native.Nat.{ℕ, zero, suc, ◌≤◌, ◌<◌}
-use native.Mathlib.Omega.{arith}
-use lib.ListN.{length}
+use Rattle.std.proofs.Common.{◌≡◌, List, ℕ, zero, suc, ◌≤◌, ◌<◌, arith, length}
 use Rattle.mesh.specs.declared.Heading.{Heading}
 use Rattle.mesh.specs.declared.Network.{Network}
 use Rattle.mesh.specs.declared.Place.{Place}
@@ -14,10 +10,10 @@ use Rattle.mesh.specs.Rules.{Trip}
 use Rattle.mesh.specs.Hops.{At, moved, fresh}
 use Rattle.mesh.specs.Walk.{arrived, hop_at, walk, bound}
 use Rattle.mesh.specs.Routing.{hops_of}
+use Rattle.theory_judging.specs.Claims.{trip_to}
 use Rattle.theory_walk.specs.Claims.{Arrives, reached, OnTheWay}
 use Rattle.theory_walk.proofs.Bools.{cond-by}
 use Rattle.theory_walk.proofs.Theorems.{walk-arrives, same-walk, on-the-way}
-use Rattle.theory_judging.specs.Claims.{trip_to}
 use Rattle.theory_demands.specs.Demand3.{ByRules, rule-1, hop-on, hops}
 use Rattle.theory_demands.proofs.Requests.{Clear, course-of, served-of}
 

@@ -1,8 +1,5 @@
 -- What it says that none of a request's refusals applies. Assumes nothing.
-use mathlib.Core.Path.{◌≡◌, sym, ◌∙◌}
-use mathlib.Core.Bool.{false, cond}
-use mathlib.Core.List.{List, ◌++◌}
-use Prim.Native.Nat.{ℕ}
+use Rattle.std.proofs.Common.{◌≡◌, sym, ◌∙◌, false, cond, List, ◌++◌, ℕ}
 use Rattle.mesh.specs.declared.Network.{Network}
 use Rattle.mesh.specs.declared.Place.{Place}
 use Rattle.mesh.specs.Mesh.{Mesh, mesh}
@@ -15,9 +12,9 @@ use Rattle.mesh.proofs.Tests.{NoneHolds, first-none, clear-before, clear_next}
 use Rattle.mesh.proofs.Maps.{map-numbered, accepted}
 use Rattle.mesh.proofs.Requests.{on_row, on-column, Placed, trip-numbered, placed, request}
 use Rattle.theory_blocks.proofs.Theorems.{obstacles}
+use Rattle.theory_judging.specs.Claims.{refusal_of, trip_to}
 use Rattle.theory_walk.specs.Course.{Course, FreePlace, Served}
 use Rattle.theory_walk.proofs.Theorems.{destination-course, source-served}
-use Rattle.theory_judging.specs.Claims.{refusal_of, trip_to}
 use Rattle.theory_demands.specs.Demand3.{refusal1to8, request_refusal}
 
 -- a request that refusals 1 to 8 let pass

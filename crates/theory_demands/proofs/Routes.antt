@@ -1,15 +1,7 @@
 -- What Route answers and writes, by whether one of refusals 1 to 9 applies to the request. Assumes nothing.
-use Rattle.std.specs.Prelude.{Result}
-use Rattle.mesh.specs.declared.Refusal.{Refusal}
-use mathlib.Core.Path.{◌≡◌, refl, sym, ◌∙◌}
-use mathlib.Core.Bool.{cond}
-use mathlib.Core.List.{List, ◌++◌, append_assoc}
-use Prim.Native.Nat.{ℕ, zero, suc, ◌≤◌, ◌<◌}
+use Rattle.std.proofs.Common.{Result, ◌≡◌, refl, sym, ◌∙◌, cond, List, ◌++◌, append_assoc, ℕ, zero, suc, ◌≤◌, ◌<◌, arith, lt-ltb, le-ltb, ltb, length, drop}
 use native.Mathlib.Decide.{dec_le}
-use native.Mathlib.Omega.{arith}
-use borrow.Author.Tests.{lt-ltb, le-ltb}
-use lib.Dec.{ltb}
-use lib.ListN.{length, drop}
+use Rattle.mesh.specs.declared.Refusal.{Refusal}
 use Rattle.mesh.specs.declared.Heading.{Heading}
 use Rattle.mesh.specs.declared.Network.{Network}
 use Rattle.mesh.specs.declared.Place.{Place}

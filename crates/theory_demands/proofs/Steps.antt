@@ -1,12 +1,6 @@
 -- One call of Move on. Assumes nothing.
-use Rattle.std.specs.Prelude.{Option, Result}
+use Rattle.std.proofs.Common.{Option, Result, ◌≡◌, refl, sym, ◌∙◌, Bool, true, false, not, cond, ◌&&◌, List, ℕ, zero, suc, arith, lt-ltb}
 use Rattle.mesh.specs.declared.Refusal.{Refusal}
-use mathlib.Core.Path.{◌≡◌, refl, sym, ◌∙◌}
-use mathlib.Core.Bool.{Bool, true, false, not, cond, ◌&&◌}
-use mathlib.Core.List.{List}
-use Prim.Native.Nat.{ℕ, zero, suc}
-use native.Mathlib.Omega.{arith}
-use borrow.Author.Tests.{lt-ltb}
 use Rattle.mesh.specs.declared.Heading.{Heading}
 use Rattle.mesh.specs.declared.Packet.{Packet}
 use Rattle.mesh.specs.declared.Network.{Network}
@@ -23,9 +17,9 @@ use Rattle.mesh.specs.Requests.{off_mesh, in_block, place_tests, trip_tests}
 use Rattle.mesh.specs.Moving.{Told, hopped, there, moved_told, move_refusal, hop_from, may_hop, told, record_after, MovesOn}
 use Rattle.mesh.proofs.Tests.{clear_next}
 use Rattle.mesh.proofs.Maps.{map-numbered}
+use Rattle.theory_judging.specs.Claims.{trip_to}
 use Rattle.theory_walk.specs.Course.{FreePlace}
 use Rattle.theory_walk.specs.Claims.{Hops}
-use Rattle.theory_judging.specs.Claims.{trip_to}
 use Rattle.theory_demands.proofs.Requests.{Passed}
 
 -- Answers are told apart.

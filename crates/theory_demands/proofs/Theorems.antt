@@ -1,13 +1,6 @@
 -- Demand 3 of the hand-over sheet, and what goes with it. Assumes nothing.
-use Rattle.std.specs.Prelude.{Result}
+use Rattle.std.proofs.Common.{Result, ◌≡◌, refl, ◌↔◌, true, List, ℕ, suc, ◌≤◌, arith, length}
 use Rattle.mesh.specs.declared.Refusal.{Refusal}
-use mathlib.Core.Path.{◌≡◌, refl}
-use mathlib.Core.Logic.{◌↔◌}
-use mathlib.Core.Bool.{true}
-use mathlib.Core.List.{List}
-use Prim.Native.Nat.{ℕ, suc, ◌≤◌}
-use native.Mathlib.Omega.{arith}
-use lib.ListN.{length}
 use Rattle.mesh.specs.declared.Network.{Network}
 use Rattle.mesh.specs.declared.Place.{Place}
 use Rattle.mesh.specs.Mesh.{mesh}
@@ -21,10 +14,10 @@ use Rattle.mesh.specs.Routing.{routed_answer, Routes}
 use Rattle.mesh.specs.Judging.{passed, judgement}
 use Rattle.mesh.proofs.Maps.{accepted}
 use Rattle.mesh.proofs.Requests.{request}
-use Rattle.theory_walk.specs.Claims.{most_hops, Fails, reached}
-use Rattle.theory_walk.proofs.Theorems as walks
 use Rattle.theory_judging.specs.Claims.{trip_to}
 use Rattle.theory_judging.proofs.Theorems.{judgement-of-route}
+use Rattle.theory_walk.specs.Claims.{most_hops, Fails, reached}
+use Rattle.theory_walk.proofs.Theorems as walks
 use Rattle.theory_demands.specs.Demand3.{Call, is_same, refusal1to8, request_refusal, hops, Demand3}
 use Rattle.theory_demands.proofs.Requests.{passed-8, passed-9, course-of, free_source, judged-clear}
 use Rattle.theory_demands.proofs.Routes.{route-given, refused-given}

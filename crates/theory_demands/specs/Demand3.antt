@@ -1,6 +1,6 @@
 -- Demand 3 of the hand-over sheet, over the definitions that the promises of Route (`Routes`) and of Move on (`MovesOn`) cite. Assumes nothing.
-use Rattle.mesh.specs.declared.Refusal.{Refusal}
 use Rattle.std.specs.Prelude.{◌≡◌, ◌↔◌, Bool, true, false, cond, ◌&&◌, List, [], ◌∷◌, ◌++◌, ℕ, zero, suc, ◌+◌, ◌≤◌, ◌<◌, eqb, length, get_or, drop, Option, None, Result}
+use Rattle.mesh.specs.declared.Refusal.{Refusal}
 use Rattle.mesh.specs.declared.Heading.{Heading}
 use Rattle.mesh.specs.declared.Network.{Network}
 use Rattle.mesh.specs.declared.Place.{Place}
@@ -18,9 +18,9 @@ use Rattle.mesh.specs.Maps.{map_tests}
 use Rattle.mesh.specs.Requests.{trip_tests, request_tests}
 use Rattle.mesh.specs.Routing.{routed_answer, hops_of, Routes}
 use Rattle.mesh.specs.Moving.{Told, hopped, there, moved_told, MovesOn}
+use Rattle.theory_judging.specs.Claims.{trip_to}
 use Rattle.theory_walk.specs.Course.{FreePlace}
 use Rattle.theory_walk.specs.Claims.{reached}
-use Rattle.theory_judging.specs.Claims.{trip_to}
 
 -- hs are the hops by the rules from p, all of them until rule 1 applies
 pub data ByRules (t : Trip) : At → List Heading → Type 0 where

@@ -1,18 +1,10 @@
 -- A drawn map and the refusals: those of drawing before it, those of every operation after it. Assumes nothing.
-use mathlib.Core.Path.{◌≡◌, refl, ◌∙◌}
-use mathlib.Core.Bool.{false}
-use mathlib.Core.List.{List}
-use Prim.Native.Nat.{ℕ, zero, suc, ◌*◌, ◌≤◌}
-use native.Mathlib.Omega.{arith}
-use borrow.Author.Tests.{ltb-false}
-use lib.ListN.{length, take, drop}
-use lib.Seq.{take_at, drop_at}
+use Rattle.std.proofs.Common.{◌≡◌, refl, ◌∙◌, false, List, ℕ, zero, suc, ◌*◌, ◌≤◌, arith, ltb-false, length, take, drop, take_at, drop_at, Ok}
 use Rattle.mesh.specs.Tests.{first}
 use Rattle.mesh.specs.Numbers.{returned, answer, written}
 use Rattle.mesh.specs.Nodes.{how_many}
 use Rattle.mesh.specs.Maps.{bad_size, map_tests}
 use Rattle.mesh.proofs.Tests.{numbered, NoneHolds, first-none}
-use Rattle.std.specs.Prelude.{Ok}
 use Rattle.theory_draw.specs.Draws.{drawn_places}
 use Rattle.theory_draw.specs.Drawing.{drawn_map, drawn_faults, bad_draws, draw_refusal, DrawsMap}
 use Rattle.theory_draw.specs.Claims.{Passes}

@@ -1,15 +1,8 @@
 -- States are below 2^32, a draw picks a number of the places, and every drawn place is an allowed one. Assumes nothing.
-use mathlib.Core.Path.{◌≡◌, refl}
-use mathlib.Core.Logic.{inl, inr, ◌↔◌}
-use mathlib.Core.Bool.{true, false, ◌&&◌, ◌||◌, or-true}
-use mathlib.Core.List.{List, [], ◌∷◌}
-use Prim.Native.Nat.{ℕ, zero, suc, ◌*◌, ◌^◌, ◌≤◌, ◌<◌}
-use native.Mathlib.Nat.{mul_comm, mod-lt, mul-lt-mul_of_pos_left, div-lt_iff_lt-mul}
-use native.Mathlib.Omega.{arith}
-use borrow.Author.Tests.{ltb-true, ltb-false, eqb-true, eqb-false, lt-ltb, eq-eqb}
-use lib.Dec.{ltb, eqb}
-use lib.Pow.{pow_pos}
-use lib.ListN.{length}
+use Rattle.std.proofs.Common.{◌≡◌, refl, inl, inr, ◌↔◌, true, false, ◌&&◌, ◌||◌, List, [], ◌∷◌, ℕ, zero, suc, ◌*◌, ◌^◌, ◌≤◌, ◌<◌, mul_comm, mod-lt, div-lt_iff_lt-mul, arith, ltb-true, ltb-false, eqb-true, lt-ltb, eq-eqb, ltb, eqb, pow_pos, length}
+use mathlib.Core.Bool.{or-true}
+use native.Mathlib.Nat.{mul-lt-mul_of_pos_left}
+use borrow.Author.Tests.{eqb-false}
 use Rattle.mesh.specs.declared.Place.{Place}
 use Rattle.mesh.proofs.Bools.{and_both, and_right, or_cases, or-none}
 use Rattle.theory_draw.specs.Draws.{next_state, state_after, place_count, picked, picked_place, drawn_places}

@@ -1,15 +1,6 @@
 -- The map with faults at allowed places: it passes refusals 3 to 5, and its number of faulty nodes is the number of distinct places. Assumes nothing.
-use mathlib.Core.Path.{◌≡◌, refl, sym, ap, ◌∙◌}
-use mathlib.Core.Logic.{inl, inr}
-use mathlib.Core.Bool.{Bool, true, false, cond}
-use mathlib.Core.List.{List, [], ◌∷◌}
-use Prim.Native.Nat.{ℕ, ◌+◌, ◌*◌, ◌/◌, ◌%◌, ◌≤◌, ◌<◌}
-use native.Mathlib.Nat.{zero-add}
-use native.Mathlib.Omega.{arith}
-use borrow.Author.Tests.{eqb-true, eq-eqb}
-use lib.Dec.{ltb, eqb}
-use lib.ListN.{length, get_or, length-set, length-replicate, get_or-replicate}
-use lib.Seq.{get_or-set_same, get_or-set_other}
+use Rattle.std.proofs.Common.{◌≡◌, refl, sym, ap, ◌∙◌, inl, inr, Bool, true, false, cond, List, [], ◌∷◌, ℕ, ◌+◌, ◌*◌, ◌/◌, ◌%◌, ◌≤◌, ◌<◌, zero-add, arith, eqb-true, eq-eqb, ltb, eqb, length, get_or, length-set, get_or-set_same, get_or-set_other}
+use lib.ListN.{length-replicate, get_or-replicate}
 use Rattle.mesh.specs.declared.Place.{Place}
 use Rattle.mesh.specs.Nodes.{is_bad, how_many}
 use Rattle.mesh.specs.Maps.{bad_length, bad_byte, misplaced_at, misplaced}

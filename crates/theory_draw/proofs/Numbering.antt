@@ -1,10 +1,5 @@
 -- The numbers of the allowed places, worked out: rows - 2 rows of columns - 4 places each. Assumes nothing.
-use mathlib.Core.Path.{◌≡◌, sym, ◌∙◌}
-use mathlib.Core.Bool.{Bool, true}
-use Prim.Native.Nat.{ℕ, zero, suc, ◌+◌, ◌-◌, ◌*◌, ◌/◌, ◌%◌, ◌<◌}
-use native.Mathlib.Nat.{zero-add, add-zero, mul-zero, mul_comm, mod-lt, div-lt_iff_lt-mul, div-add-mod'}
-use native.Mathlib.Omega.{arith}
-use borrow.Author.Tests.{le-leb, lt-ltb}
+use Rattle.std.proofs.Common.{◌≡◌, sym, ◌∙◌, Bool, true, ℕ, zero, suc, ◌+◌, ◌-◌, ◌*◌, ◌/◌, ◌%◌, ◌<◌, zero-add, add-zero, mul-zero, mul_comm, mod-lt, div-lt_iff_lt-mul, div-add-mod', arith, le-leb, lt-ltb}
 use Rattle.mesh.specs.Mesh.{place}
 use Rattle.mesh.specs.Maps.{allowed}
 use Rattle.mesh.proofs.Bools.{and_intro}

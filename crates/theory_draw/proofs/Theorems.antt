@@ -1,12 +1,5 @@
 -- What is shown of a map drawn by number (document 02, E8). Assumes nothing.
-use Rattle.std.specs.Prelude.{Result}
-use Rattle.theory_draw.specs.declared.DrawRefusal.{DrawRefusal}
-use mathlib.Core.Path.{◌≡◌}
-use mathlib.Core.Logic.{◌⊎◌, ◌↔◌}
-use mathlib.Core.Bool.{true, false}
-use mathlib.Core.List.{List, ◌++◌}
-use Prim.Native.Nat.{ℕ, suc, ◌+◌, ◌-◌, ◌*◌, ◌/◌, ◌%◌, ◌≤◌, ◌<◌}
-use lib.ListN.{take, drop}
+use Rattle.std.proofs.Common.{Result, ◌≡◌, ◌⊎◌, ◌↔◌, true, false, List, ◌++◌, ℕ, suc, ◌+◌, ◌-◌, ◌*◌, ◌/◌, ◌%◌, ◌≤◌, ◌<◌, take, drop, Ok}
 use Rattle.mesh.specs.declared.Place.{Place}
 use Rattle.mesh.specs.Mesh.{place}
 use Rattle.mesh.specs.Tests.{Test, first}
@@ -15,7 +8,7 @@ use Rattle.mesh.specs.Nodes.{how_many}
 use Rattle.mesh.specs.Maps.{bad_size, map_tests}
 use Rattle.mesh.proofs.Tests.{clear_next}
 use Rattle.mesh.proofs.Maps.{map-numbered}
-use Rattle.std.specs.Prelude.{Ok}
+use Rattle.theory_draw.specs.declared.DrawRefusal.{DrawRefusal}
 use Rattle.theory_draw.specs.Draws.{state_after, place_count, place_numbered, picked, index_of}
 use Rattle.theory_draw.specs.Drawing.{drawn_map, drawn_faults, drawn_answer, bad_draws, draw_refusal, DrawsMap}
 use Rattle.theory_draw.specs.Claims.{Allowed, OneNumber, Undrawable, Passes}

@@ -1,9 +1,9 @@
 -- A map drawn by number (document 02, E8): what is answered and written. Assumes nothing.
-use Rattle.theory_draw.specs.declared.DrawRefusal.{DrawRefusal}
 use Rattle.std.specs.Prelude.{◌≡◌, Bool, ◌&&◌, ◌||◌, List, [], ◌∷◌, ℕ, ◌*◌, ltb, eqb, length, Result, Ok, Err}
 use Rattle.mesh.specs.Tests.{◌gives◌, first}
 use Rattle.mesh.specs.Numbers.{number, Answer, refused, returned, answer, written}
 use Rattle.mesh.specs.Maps.{bad_size}
+use Rattle.theory_draw.specs.declared.DrawRefusal.{DrawRefusal}
 use Rattle.theory_draw.specs.declared.DrawRefusal.TheVariants.{Refused, BadDraws}
 use Rattle.theory_draw.specs.Draws.{place_count, drawn_places, fault_map, distinct}
 

@@ -1,11 +1,6 @@
 -- A single letter of a hand-in: what is wrong with it. Assumes nothing.
-use Rattle.std.specs.Prelude.{Option, Some, None}
+use Rattle.std.proofs.Common.{Option, Some, None, ◌≡◌, refl, ◌↔◌, ◌≢◌, inl, inr, Bool, true, false, not, cond, ◌&&◌, ℕ, suc, pred, arith}
 use Rattle.mesh.specs.declared.TurnRule.{TurnRule}
-use mathlib.Core.Path.{◌≡◌, refl}
-use mathlib.Core.Logic.{◌↔◌, ◌≢◌, inl, inr}
-use mathlib.Core.Bool.{Bool, true, false, not, cond, ◌&&◌}
-use Prim.Native.Nat.{ℕ, suc, pred}
-use native.Mathlib.Omega.{arith}
 use Rattle.mesh.specs.declared.TurnRule.TheVariants.{Rule1, Rule2}
 use Rattle.mesh.specs.declared.Heading.{Heading}
 use Rattle.mesh.specs.Headings.{letter, named}

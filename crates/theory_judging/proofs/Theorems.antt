@@ -1,15 +1,7 @@
 -- What is shown of judging a hand-in. Each theorem is proved in the file that its proof cites. Assumes nothing.
-use Rattle.std.specs.Prelude.{Option, Some, None}
-use Rattle.mesh.specs.declared.TurnRule.{TurnRule}
-use mathlib.Core.Path.{◌≡◌, sym, ◌∙◌}
+use Rattle.std.proofs.Common.{Option, Some, None, ◌≡◌, sym, ◌∙◌, ◌↔◌, Bool, true, List, ℕ, suc, ◌+◌, zero-add, arith, length}
 use mathlib.Core.Logic.Iff
-use mathlib.Core.Logic.{◌↔◌}
-use mathlib.Core.Bool.{Bool, true}
-use mathlib.Core.List.{List}
-use Prim.Native.Nat.{ℕ, suc, ◌+◌}
-use native.Mathlib.Nat.{zero-add}
-use native.Mathlib.Omega.{arith}
-use lib.ListN.{length}
+use Rattle.mesh.specs.declared.TurnRule.{TurnRule}
 use Rattle.mesh.specs.declared.TurnRule.TheVariants.{Rule1, Rule2}
 use Rattle.mesh.specs.declared.Heading.{Heading}
 use Rattle.mesh.specs.declared.Network.{Network}

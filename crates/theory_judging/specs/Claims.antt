@@ -1,6 +1,6 @@
 -- What is shown of a judged hand-in (document 01, "Judge a hand-in"): xs are its bytes, t and p are what the hop rules look at. Assumes nothing.
-use Rattle.mesh.specs.declared.TurnRule.{TurnRule}
 use Rattle.std.specs.Prelude.{◌≡◌, Bool, true, false, ◌&&◌, List, [], ◌∷◌, ◌++◌, ℕ, ◌-◌, ◌≤◌, ◌<◌, length, get_or, take, Option, Some, None}
+use Rattle.mesh.specs.declared.TurnRule.{TurnRule}
 use Rattle.mesh.specs.declared.TurnRule.TheVariants.{Rule1, Rule2}
 use Rattle.mesh.specs.declared.Heading.{Heading}
 use Rattle.mesh.specs.declared.Heading.TheVariants.{East as E, North as N, South as S, West as W}

@@ -1,12 +1,6 @@
 -- The faults that reading meets: 19 and 20 at a number, up to 21 at the legs, up to 22 in all. Assumes nothing.
-use Rattle.std.specs.Prelude.{Option, Some, None}
+use Rattle.std.proofs.Common.{Option, Some, None, ◌≡◌, Bool, true, false, cond, List, [], ◌∷◌, ℕ, zero, suc, ◌≤◌, arith, ltb}
 use Rattle.mesh.specs.declared.Heading.{Heading}
-use mathlib.Core.Path.{◌≡◌}
-use mathlib.Core.Bool.{Bool, true, false, cond}
-use mathlib.Core.List.{List, [], ◌∷◌}
-use Prim.Native.Nat.{ℕ, zero, suc, ◌≤◌}
-use native.Mathlib.Omega.{arith}
-use lib.Dec.{ltb}
 use Rattle.mesh.specs.Headings.{last_is}
 use Rattle.theory_legs.specs.Groups.{Found, fault, found, and_then, above, read_groups, not_large, read_number}
 use Rattle.theory_legs.specs.Legs.{Leg}

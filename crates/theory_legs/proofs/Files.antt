@@ -1,15 +1,6 @@
 -- Legs read back from their file are the same, and a file that is read is that of its legs. Assumes nothing.
-use Rattle.std.specs.Prelude.{Option, Some, None}
+use Rattle.std.proofs.Common.{Option, Some, None, ◌≡◌, refl, ap, ◌∙◌, inl, inr, true, false, List, [], ◌∷◌, ◌++◌, append_assoc, append-nil, ℕ, zero, suc, ◌+◌, ◌/◌, ◌%◌, ◌≤◌, mod-lt, arith, ltb-false, le-ltb, length}
 use Rattle.mesh.specs.declared.Heading.{Heading}
-use mathlib.Core.Path.{◌≡◌, refl, ap, ◌∙◌}
-use mathlib.Core.Logic.{inl, inr}
-use mathlib.Core.Bool.{true, false}
-use mathlib.Core.List.{List, [], ◌∷◌, ◌++◌, append_assoc, append-nil}
-use Prim.Native.Nat.{ℕ, zero, suc, ◌+◌, ◌/◌, ◌%◌, ◌≤◌}
-use native.Mathlib.Nat.{mod-lt}
-use native.Mathlib.Omega.{arith}
-use borrow.Author.Tests.{ltb-false, le-ltb}
-use lib.ListN.{length}
 use Rattle.mesh.specs.Headings.{last_is, code}
 use Rattle.mesh.proofs.Bools.{value, or-none}
 use Rattle.mesh.proofs.Headings.{code-few, direction-of-code, code-of-direction}

@@ -1,11 +1,6 @@
 -- What an operation that keeps its promise did where it wrote, and whenever nothing is to be refused. Assumes nothing.
-use Rattle.std.specs.Prelude.{Result, Ok, Err}
-use mathlib.Core.Path.{◌≡◌, refl}
-use mathlib.Core.Bool.{true}
-use mathlib.Core.List.{List, ◌++◌}
-use Prim.Native.Nat.{ℕ, zero, suc, pred, ◌≤◌, ◌<◌}
-use lib.ListN.{length, take, drop}
-use lib.Seq.{take-append_seam, drop_at}
+use Rattle.std.proofs.Common.{Result, Ok, Err, ◌≡◌, refl, true, List, ◌++◌, ℕ, zero, suc, pred, ◌≤◌, ◌<◌, length, take, drop, drop_at}
+use lib.Seq.{take-append_seam}
 use Rattle.mesh.specs.Tests.{Test, first}
 use Rattle.mesh.specs.Numbers.{returned, answer, written}
 use Rattle.mesh.proofs.Tests.{numbered}

@@ -1,13 +1,7 @@
 -- How many bytes and letters legs have. Assumes nothing.
-use Rattle.std.specs.Prelude.{Option, Some, None}
-use mathlib.Core.Path.{◌≡◌, refl, sym, ◌∙◌}
-use mathlib.Core.Bool.{false}
-use mathlib.Core.List.{List, [], ◌∷◌}
-use Prim.Native.Nat.{ℕ, ◌+◌, ◌-◌, ◌*◌, ◌≤◌, ◌<◌}
+use Rattle.std.proofs.Common.{Option, Some, None, ◌≡◌, refl, sym, ◌∙◌, false, List, [], ◌∷◌, ℕ, ◌+◌, ◌-◌, ◌*◌, ◌≤◌, ◌<◌, arith, le-ltb, length, replicate, length-append}
 use native.Mathlib.Decide.{dec_lt}
-use native.Mathlib.Omega.{arith}
-use borrow.Author.Tests.{le-ltb}
-use lib.ListN.{length, replicate, length-append, length-replicate}
+use lib.ListN.{length-replicate}
 use Rattle.mesh.specs.declared.Heading.{Heading}
 use Rattle.mesh.specs.Headings.{code, letters}
 use Rattle.mesh.proofs.Headings.{code-few}

@@ -1,12 +1,5 @@
 -- What is shown of legs and their files (document 02, E3). Each theorem is proved in the file that its proof cites. Assumes nothing.
-use Rattle.std.specs.Prelude.{None, Result, Ok}
-use Rattle.theory_legs.specs.declared.LegRefusal.{LegRefusal}
-use mathlib.Core.Path.{◌≡◌, refl}
-use mathlib.Core.Logic.{◌⊎◌, ◌↔◌}
-use mathlib.Core.List.{List, ◌++◌}
-use Prim.Native.Nat.{ℕ, suc, ◌+◌, ◌≤◌, ◌<◌}
-use native.Mathlib.Omega.{arith}
-use lib.ListN.{length, take, drop}
+use Rattle.std.proofs.Common.{None, Result, Ok, ◌≡◌, refl, ◌⊎◌, ◌↔◌, List, ◌++◌, ℕ, suc, ◌+◌, ◌≤◌, ◌<◌, arith, length, take, drop}
 use Rattle.mesh.specs.declared.Heading.{Heading}
 use Rattle.mesh.specs.declared.Network.{Network}
 use Rattle.mesh.specs.declared.Place.{Place}
@@ -17,6 +10,7 @@ use Rattle.mesh.proofs.Headings.{direction-of-code, code-of-direction}
 use Rattle.theory_demands.specs.Demand3 as demand3
 use Rattle.theory_demands.specs.Demand3.{request_refusal}
 use Rattle.theory_demands.proofs.Theorems.{routes-are-short}
+use Rattle.theory_legs.specs.declared.LegRefusal.{LegRefusal}
 use Rattle.theory_legs.specs.Legs.{Leg, legs, hops}
 use Rattle.theory_legs.specs.Converting.{converted_answer, refusal, Converts, legs_of, letter_tests, file_of, LettersToLegs, file_tests, letters_of, LegsToLetters}
 use Rattle.theory_legs.specs.Claims.{Bytes, Straight, SomeOther, SomeLong, RouteAccepted, FileAccepted, FileOfRoute, LeftOver}

@@ -1,9 +1,5 @@
 -- There and back from either side changes nothing in what the first way accepts. Assumes nothing.
-use Rattle.std.specs.Prelude.{None}
-use mathlib.Core.Path.{◌≡◌, ap, sym, ◌∙◌}
-use mathlib.Core.Logic.{◌↔◌}
-use mathlib.Core.List.{List, [], append-nil}
-use Prim.Native.Nat.{ℕ}
+use Rattle.std.proofs.Common.{None, ◌≡◌, ap, sym, ◌∙◌, ◌↔◌, List, [], append-nil, ℕ}
 use Rattle.mesh.specs.Headings.{letters}
 use Rattle.theory_legs.specs.Groups.{found}
 use Rattle.theory_legs.specs.Legs.{Leg, hops}

@@ -1,6 +1,6 @@
 -- The file of legs (document 02, E3): first the number of legs, then each leg as (length - 1) x 4 plus 0 E, 1 N, 2 W, 3 S. Assumes nothing.
-use Rattle.mesh.specs.declared.Heading.{Heading}
 use Rattle.std.specs.Prelude.{cond, List, [], ◌∷◌, ◌++◌, ℕ, zero, suc, ◌+◌, ◌-◌, ◌*◌, ◌/◌, ◌%◌, length, Option, Some, None}
+use Rattle.mesh.specs.declared.Heading.{Heading}
 use Rattle.mesh.specs.Headings.{last_is, code, direction}
 use Rattle.theory_legs.specs.Groups.{number_bytes, Found, fault, found, and_then, read_number}
 use Rattle.theory_legs.specs.Legs.{Leg, leg}

@@ -1,13 +1,6 @@
 -- What is shown of a pick between the routes of both networks. Assumes nothing.
-use Rattle.std.specs.Prelude.{Result}
+use Rattle.std.proofs.Common.{Result, ◌≡◌, refl, ◌∙◌, ◌↔◌, ◌≢◌, inl, inr, List, [], ℕ, suc, ◌≤◌, ◌<◌, arith, length, take, drop, take_at, drop_at}
 use Rattle.mesh.specs.declared.Refusal.{Refusal}
-use mathlib.Core.Path.{◌≡◌, refl, ◌∙◌}
-use mathlib.Core.Logic.{◌↔◌, ◌≢◌, inl, inr}
-use mathlib.Core.List.{List, []}
-use Prim.Native.Nat.{ℕ, suc, ◌≤◌, ◌<◌}
-use native.Mathlib.Omega.{arith}
-use lib.ListN.{length, take, drop}
-use lib.Seq.{take_at, drop_at}
 use Rattle.mesh.specs.declared.Heading.{Heading}
 use Rattle.mesh.specs.declared.Network.{Network}
 use Rattle.mesh.specs.declared.Network.TheVariants.{First, Second}

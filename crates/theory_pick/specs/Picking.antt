@@ -1,7 +1,7 @@
 -- A pick of the better route (document 02, E6): both networks write into a buffer each, and the part of whichever holds the shorter route is
 -- handed back. Assumes nothing.
-use Rattle.mesh.specs.declared.Refusal.{Refusal}
 use Rattle.std.specs.Prelude.{◌≡◌, cond, List, ℕ, ltb, take, Result, Ok, Err}
+use Rattle.mesh.specs.declared.Refusal.{Refusal}
 use Rattle.mesh.specs.declared.Network.{Network}
 use Rattle.mesh.specs.declared.Network.TheVariants.{First, Second}
 use Rattle.mesh.specs.declared.Place.{Place}

@@ -1,13 +1,6 @@
 -- Each hop keeps a mode and lowers its number, so a walk arrives. Assumes nothing.
-use Rattle.std.specs.Prelude.{Option}
+use Rattle.std.proofs.Common.{Option, ◌≡◌, true, false, List, ℕ, zero, suc, ◌≤◌, ◌<◌, arith, eq-eqb, length}
 use Rattle.mesh.specs.declared.Heading.{Heading}
-use mathlib.Core.Path.{◌≡◌}
-use mathlib.Core.Bool.{true, false}
-use mathlib.Core.List.{List}
-use Prim.Native.Nat.{ℕ, zero, suc, ◌≤◌, ◌<◌}
-use native.Mathlib.Omega.{arith}
-use borrow.Author.Tests.{eq-eqb}
-use lib.ListN.{length}
 use Rattle.mesh.specs.Blocks.{Block}
 use Rattle.mesh.specs.Rules.{Trip, at_destination, hop}
 use Rattle.mesh.specs.Hops.{At, moved}

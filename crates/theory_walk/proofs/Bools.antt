@@ -1,9 +1,6 @@
 -- Bools as numbers, and proofs by cases of a test. Assumes nothing.
-use mathlib.Core.Path.{◌≡◌, refl}
-use mathlib.Core.Bool.{Bool, true, false, not, cond}
-use Prim.Native.Nat.{ℕ, ◌+◌, ◌≤◌}
+use Rattle.std.proofs.Common.{◌≡◌, refl, Bool, true, false, not, cond, ℕ, ◌+◌, ◌≤◌, arith}
 use native.Mathlib.Decide.{dec_le}
-use native.Mathlib.Omega.{arith}
 
 abbrev pub bit : Bool → ℕ
 bit true = 1

@@ -1,10 +1,7 @@
 -- The premises can be met: one block anywhere on a mesh with room for its ring, and a walk past it with the turns of either parity. Assumes nothing.
-use mathlib.Core.Path.{◌≡◌, refl, sym, subst}
-use mathlib.Core.Bool.{Bool, not, and-false}
+use Rattle.std.proofs.Common.{◌≡◌, refl, sym, subst, Bool, not, [], ◌∷◌, ℕ, ◌+◌, ◌<◌, arith}
+use mathlib.Core.Bool.{and-false}
 use mathlib.Core.List.Memᴰ
-use mathlib.Core.List.{[], ◌∷◌}
-use Prim.Native.Nat.{ℕ, ◌+◌, ◌<◌}
-use native.Mathlib.Omega.{arith}
 use Rattle.mesh.specs.Nodes.{ahead}
 use Rattle.mesh.specs.Blocks.{Block, reaches}
 use Rattle.mesh.specs.Rules.{Trip, blocked}

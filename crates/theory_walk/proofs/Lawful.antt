@@ -1,11 +1,5 @@
 -- Lawful hops by what is to go, and where they lead. Assumes nothing.
-use Rattle.std.specs.Prelude.{Option, Some}
-use mathlib.Core.Path.{◌≡◌}
-use mathlib.Core.Bool.{true, false}
-use mathlib.Core.List.{List}
-use Prim.Native.Nat.{ℕ, suc, ◌+◌, ◌-◌, ◌≤◌}
-use native.Mathlib.Omega.{arith}
-use borrow.Author.Tests.{lt-ltb, le-leb}
+use Rattle.std.proofs.Common.{Option, Some, ◌≡◌, true, false, List, ℕ, suc, ◌+◌, ◌-◌, ◌≤◌, arith, lt-ltb, le-leb}
 use Rattle.mesh.specs.declared.Heading.{Heading}
 use Rattle.mesh.specs.declared.Heading.TheVariants.{North as N, South as S, West as W}
 use Rattle.mesh.specs.Headings.{row_after, column_after, opposite}

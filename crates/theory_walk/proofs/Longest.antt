@@ -1,8 +1,5 @@
 -- How large the bound of demand 3 can be. Assumes nothing.
-use mathlib.Core.List.{List}
-use Prim.Native.Nat.{ℕ, ◌+◌, ◌-◌, ◌*◌, ◌≤◌, ◌<◌}
-use native.Mathlib.Nat.{mul-le-mul_left}
-use native.Mathlib.Omega.{arith}
+use Rattle.std.proofs.Common.{List, ℕ, ◌+◌, ◌-◌, ◌*◌, ◌≤◌, ◌<◌, mul-le-mul_left, arith}
 use Rattle.mesh.specs.Blocks.{Block}
 use Rattle.mesh.specs.Rules.{Trip}
 use Rattle.mesh.specs.Walk.{distance, bound}

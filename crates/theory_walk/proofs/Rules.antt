@@ -1,11 +1,5 @@
 -- The hop rules by what is to go: for each rule, what holds of either hop holds of the hop by the rules. Assumes nothing.
-use Rattle.std.specs.Prelude.{Option, Some, None}
-use mathlib.Core.Path.{◌≡◌, refl, ◌∙◌, sym}
-use mathlib.Core.Bool.{Bool, true, false, not, cond, ◌&&◌, ◌||◌}
-use Prim.Native.Nat.{ℕ, zero, suc, ◌+◌, ◌-◌, ◌≤◌}
-use native.Mathlib.Omega.{arith}
-use borrow.Author.Tests.{lt-ltb, le-ltb, le-leb, leb-true, eq-eqb, ne_eqb}
-use lib.Dec.{leb}
+use Rattle.std.proofs.Common.{Option, Some, None, ◌≡◌, refl, ◌∙◌, sym, Bool, true, false, not, cond, ◌&&◌, ◌||◌, ℕ, zero, suc, ◌+◌, ◌-◌, ◌≤◌, arith, lt-ltb, le-ltb, le-leb, leb-true, eq-eqb, ne_eqb, leb}
 use Rattle.mesh.specs.declared.Heading.{Heading}
 use Rattle.mesh.specs.declared.Heading.TheVariants.{East as E, North as N, South as S, West as W}
 use Rattle.mesh.specs.Headings.{row_after, opposite}

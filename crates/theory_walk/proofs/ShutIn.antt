@@ -1,14 +1,8 @@
 -- From a source that is shut in, or meets the west edge, some hop by the rules is unlawful. Assumes nothing.
-use Rattle.std.specs.Prelude.{Option, Some, None}
+use Rattle.std.proofs.Common.{Option, Some, None, ◌≡◌, true, false, not, ◌⊎◌, inl, inr, List, ℕ, zero, suc, ◌+◌, ◌-◌, ◌≤◌, ◌<◌, arith, ne_eqb, ltb-true, eqb, leb, ltb}
+use mathlib.Core.Bool.{and-false}
+use borrow.Author.Tests.{eqb-false, not-true}
 use Rattle.mesh.specs.declared.Heading.{Heading}
-use mathlib.Core.Path.{◌≡◌}
-use mathlib.Core.Bool.{true, false, not, and-false}
-use mathlib.Core.Logic.{◌⊎◌, inl, inr}
-use mathlib.Core.List.{List}
-use Prim.Native.Nat.{ℕ, zero, suc, ◌+◌, ◌-◌, ◌≤◌, ◌<◌}
-use native.Mathlib.Omega.{arith}
-use borrow.Author.Tests.{ne_eqb, eqb-false, ltb-true, not-true}
-use lib.Dec.{eqb, leb, ltb}
 use Rattle.mesh.specs.declared.Heading.TheVariants.{North as N, West as W}
 use Rattle.mesh.specs.Headings.{row_after, column_after}
 use Rattle.mesh.specs.Nodes.{ahead}

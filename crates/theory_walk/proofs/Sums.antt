@@ -1,9 +1,6 @@
 -- Sums over the blocks of a list. Assumes nothing.
-use mathlib.Core.Path.{◌≡◌, refl}
+use Rattle.std.proofs.Common.{◌≡◌, refl, List, [], ◌∷◌, ℕ, ◌+◌, ◌*◌, ◌≤◌, arith}
 use mathlib.Core.List.Memᴰ
-use mathlib.Core.List.{List, [], ◌∷◌}
-use Prim.Native.Nat.{ℕ, ◌+◌, ◌*◌, ◌≤◌}
-use native.Mathlib.Omega.{arith}
 use Rattle.mesh.specs.Blocks.{Block}
 use Rattle.mesh.specs.Walk.{detours}
 use Rattle.theory_blocks.specs.Obstacles.{Listed}

@@ -1,8 +1,5 @@
 -- Permitted turns, of a side and an upright heading. Assumes nothing.
-use Rattle.std.specs.Prelude.{Option, Some, None}
-use mathlib.Core.Path.{◌≡◌, refl}
-use mathlib.Core.Bool.{true, false}
-use Prim.Native.Nat.{ℕ}
+use Rattle.std.proofs.Common.{Option, Some, None, ◌≡◌, refl, true, false, ℕ}
 use borrow.Author.Tests.{not-true}
 use Rattle.mesh.specs.declared.Heading.{Heading}
 use Rattle.mesh.specs.declared.Heading.TheVariants.{East as E, North as N, South as S, West as W}
