@@ -3,92 +3,64 @@
 
 ghost use Rattle.std.specs.Prelude.{◌≡◌, ◌||◌};
 ghost use Rattle.mesh.specs.declared.Heading.TheVariants.{North, South};
-ghost use Rattle.mesh.specs.Headings.{letter, same, last_is, named, code, direction, heading_number, last_number, last_of};
-ghost use Rattle.headings.specs.Codes.{Counts, Codes};
+ghost use Rattle.mesh.specs.Headings.{letter, same, last_is, named, code, direction, last_number, last_of};
+ghost use Rattle.headings.specs.Codes.{Codes};
 
-use mesh::{Heading, Last, Letter};
+use mesh::Heading;
 
 pub fn letter(h: Heading) -> u8
     ensures { result ≡ letter h }
 {
     match h {
-        Heading::East => return b'E',
-        Heading::North => return b'N',
-        Heading::South => return b'S',
-        Heading::West => return b'W',
+        Heading::East => b'E',
+        Heading::North => b'N',
+        Heading::South => b'S',
+        Heading::West => b'W',
     }
-}
-
-fn heading_number(h: Heading) -> u32
-    ensures { result ≡ heading_number h }
-{
-    match h {
-        Heading::East => return 1,
-        Heading::North => return 2,
-        Heading::South => return 3,
-        Heading::West => return 4,
-    }
-}
-
-// By their numbers: they follow the order of the variants, so that this is one comparison.
-pub fn is_same(g: Heading, h: Heading) -> bool
-    ensures { result ≡ same g h }
-{
-    heading_number(g) == heading_number(h)
 }
 
 // Whether the last hop was that way.
-pub fn is_last(l: Last, h: Heading) -> bool
+#[tactic(auto, unfolding(mesh::specs::Headings::last_is, mesh::specs::Headings::same))]
+pub fn is_last(l: Option<Heading>, h: Heading) -> bool
     ensures { result ≡ last_is l h }
 {
-    match l {
-        Last::None => return false,
-        Last::Made(g) => return is_same(g, h),
-    }
+    l == Some(h)
 }
 
+#[tactic(auto, unfolding(mesh::specs::Headings::same))]
 pub fn is_vertical(h: Heading) -> bool
     ensures { result ≡ same h North || same h South }
 {
-    if is_same(h, Heading::North) {
-        return true;
-    }
-    is_same(h, Heading::South)
+    matches!(h, Heading::North | Heading::South)
 }
 
 // The hop that a byte names, found by two tests or three: no table of jumps is made of them.
-pub fn read_letter(x: u8) -> Letter
+#[tactic(auto, unfolding(mesh::specs::Headings::named))]
+pub fn read_letter(x: u8) -> Option<Heading>
     ensures { result ≡ named x }
 {
     if x < b'O' {
         if x == b'E' {
-            return Letter::Hop(Heading::East);
+            Some(Heading::East)
+        } else if x == b'N' {
+            Some(Heading::North)
+        } else {
+            None
         }
-        if x == b'N' {
-            return Letter::Hop(Heading::North);
-        }
-        return Letter::Other;
+    } else if x == b'S' {
+        Some(Heading::South)
+    } else if x == b'W' {
+        Some(Heading::West)
+    } else {
+        None
     }
-    if x == b'S' {
-        return Letter::Hop(Heading::South);
-    }
-    if x == b'W' {
-        return Letter::Hop(Heading::West);
-    }
-    Letter::Other
-}
-
-fn one_if(b: bool) -> u32
-    ensures { Counts b result }
-{
-    b as u32
 }
 
 // The code of the hop that a letter names, without a jump: turns of a route can't be foretold.
 pub fn letter_code(x: u8) -> u32
     ensures { Codes x result }
 {
-    one_if(x == b'N') + 2 * one_if(x == b'W') + 3 * one_if(x == b'S')
+    u32::from(x == b'N') + 2 * u32::from(x == b'W') + 3 * u32::from(x == b'S')
 }
 
 // The code of a direction: 0 E, 1 N, 2 W, 3 S. Its number counted from 0, with each bit changed where the one above it is set (a Gray code):
@@ -96,51 +68,40 @@ pub fn letter_code(x: u8) -> u32
 pub fn code(h: Heading) -> u32
     ensures { result ≡ code h }
 {
-    let n = heading_number(h) - 1;
+    let n = u32::from(h) - 1;
     n ^ (n / 2)
 }
 
 // The direction of a code.
+#[tactic(auto, unfolding(mesh::specs::Headings::direction))]
 pub fn direction(code: u32) -> Heading
     ensures { result ≡ direction code }
 {
-    if code == 0 {
-        return Heading::East;
+    match code {
+        0 => Heading::East,
+        1 => Heading::North,
+        2 => Heading::West,
+        _ => Heading::South,
     }
-    if code == 1 {
-        return Heading::North;
-    }
-    if code == 2 {
-        return Heading::West;
-    }
-    Heading::South
 }
 
 // The number of a last hop: 0 none, 1 E, 2 N, 3 S, 4 W.
-pub fn last_number(last: Last) -> u32
+pub fn last_number(last: Option<Heading>) -> u32
     ensures { result ≡ last_number last }
 {
-    match last {
-        Last::None => return 0,
-        Last::Made(h) => return heading_number(h),
-    }
+    last.map_or(0, u32::from)
 }
 
 // The last hop of that number.
-pub fn last_of(n: u32) -> Last
+#[tactic(auto, unfolding(mesh::specs::Headings::last_of))]
+pub fn last_of(n: u32) -> Option<Heading>
     ensures { result ≡ last_of n }
 {
-    if n == 1 {
-        return Last::Made(Heading::East);
+    match n {
+        1 => Some(Heading::East),
+        2 => Some(Heading::North),
+        3 => Some(Heading::South),
+        4 => Some(Heading::West),
+        _ => None,
     }
-    if n == 2 {
-        return Last::Made(Heading::North);
-    }
-    if n == 3 {
-        return Last::Made(Heading::South);
-    }
-    if n == 4 {
-        return Last::Made(Heading::West);
-    }
-    Last::None
 }
