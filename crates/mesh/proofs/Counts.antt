@@ -1,14 +1,14 @@
 -- Laws of `how_many`. Assumes nothing.
 use Rattle.std.proofs.Common.{◌≡◌, refl, inl, inr, false, cond, List, [], ◌∷◌, ℕ, zero, suc, ◌+◌, ◌≤◌, ◌<◌, arith, eqb, length, get_or, set, replicate}
+use Rattle.std.proofs.lemmas.Bool.{cases_Bool}
 use Rattle.mesh.specs.Nodes.{how_many}
-use Rattle.mesh.proofs.Bools.{value}
 
 module _ (n : ℕ) where
   pub how_many-le : (xs : List ℕ) → how_many n xs ≤ length xs
   unfolding how_many
   how_many-le [] = omega arith
   how_many-le (x ∷ xs) =
-      elim (value (eqb x n)) [ inl e ↦ rw e (omega (arith, how_many-le xs)) | inr e ↦ rw e (omega (arith, how_many-le xs)) ]
+      elim (cases_Bool (eqb x n)) [ inl e ↦ rw e (omega (arith, how_many-le xs)) | inr e ↦ rw e (omega (arith, how_many-le xs)) ]
 
   -- where every number is another
   pub how_many-other : (x k : ℕ) → eqb x n ≡ false → how_many n (replicate k x) ≡ 0

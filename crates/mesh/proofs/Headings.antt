@@ -1,7 +1,7 @@
 -- Headings, their letters and their codes tell one another apart. Assumes nothing.
 use Rattle.std.proofs.Common.{Some, None, ◌≡◌, refl, ap, inl, inr, true, ℕ, zero, suc, ◌<◌, arith, eqb-true, eq-eqb, eqb}
+use Rattle.std.proofs.lemmas.Bool.{cases_Bool}
 use Rattle.mesh.specs.Headings.{Heading, E, N, S, W, letter, same, named, code, direction}
-use Rattle.mesh.proofs.Bools.{value}
 
 -- Letters
 
@@ -20,16 +20,16 @@ pub data Named (x : ℕ) : Type 0 where
 pub name : (x : ℕ) → Named x
 unfolding named
 name x =
-    elim (value (eqb x (letter E))) [
+    elim (cases_Bool (eqb x (letter E))) [
       | inl e ↦ is-hop E (eqb-true x _ e)
       | inr e ↦
-          elim (value (eqb x (letter N))) [
+          elim (cases_Bool (eqb x (letter N))) [
             | inl n ↦ is-hop N (eqb-true x _ n)
             | inr n ↦
-                elim (value (eqb x (letter S))) [
+                elim (cases_Bool (eqb x (letter S))) [
                   | inl s ↦ is-hop S (eqb-true x _ s)
                   | inr s ↦
-                      elim (value (eqb x (letter W)))
+                      elim (cases_Bool (eqb x (letter W)))
                       [ inl t ↦ is-hop W (eqb-true x _ t) | inr t ↦ is-other (rw (e, n, s, t)) ]
                 ]
           ]

@@ -1,6 +1,6 @@
 -- A place's index in a map, row by row, and the place of an index. Assumes nothing.
 use Rattle.std.proofs.Common.{◌≡◌, refl, ◌∙◌, ℕ, zero, suc, ◌+◌, ◌*◌, ◌/◌, ◌%◌, ◌≤◌, ◌<◌, add-zero, mul_comm, mul-le-mul_left, mul-le-mul_right, mod-eq_of_lt, mod-lt, div-lt_iff_lt-mul, div-add-mod', arith}
-use native.Mathlib.Nat.{mul-add-div_right, div-eq_of_lt, mul-add-mod_self_right}
+use Rattle.std.proofs.Math.Nat.{mul-add-div_right, div-eq_of_lt, mul-add-mod_self_right}
 
 module _ (columns r c : ℕ) (h : c < columns) where
   pub index-row : (r * columns + c) / columns ≡ r

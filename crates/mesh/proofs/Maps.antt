@@ -1,12 +1,12 @@
 -- Where a fault may lie, and what it says that none of refusals 1 to 5 applies. Assumes nothing.
 use Rattle.std.proofs.Common.{◌≡◌, refl, true, false, List, ℕ, ◌+◌, ◌*◌, ◌/◌, ◌%◌, ◌≤◌, ◌<◌, zero-add, arith, eqb-true, ne_eqb, leb-true, ltb-true, ltb-false, le-leb, le-ltb, lt-ltb, eqb, ltb, length, get_or}
-use borrow.Author.Tests.{not-false}
+use Rattle.std.proofs.lemmas.Bool.{and_parts, or_parts, not-false}
 use Rattle.mesh.specs.Mesh.{mesh, on_mesh}
 use Rattle.mesh.specs.Tests.{first}
 use Rattle.mesh.specs.Nodes.{is_bad, bad}
 use Rattle.mesh.specs.Maps.{allowed, bad_size, bad_length, bad_byte, misplaced_at, misplaced, map_tests}
 use Rattle.mesh.proofs.Tests.{numbered, NoneHolds, first-none}
-use Rattle.mesh.proofs.Bools.{and_both, and_right, or-none}
+use Rattle.mesh.proofs.Bools.{and_right}
 use Rattle.mesh.proofs.Hops.{on-mesh}
 use Rattle.mesh.proofs.Some.{none_passes}
 use Rattle.mesh.proofs.Index.{index-row, index-column, index-within, few-nodes}
@@ -22,9 +22,9 @@ module _ (columns rows r c : ℕ) where
   pub allowed-told : allowed columns rows r c ≡ true → Inner columns rows r c
   unfolding allowed
   allowed-told e =
-      let (p, q) = and_both e in
-      let (a, b) = and_both p in
-      let (d, f) = and_both q in
+      let (p, q) = and_parts _ _ e in
+      let (a, b) = and_parts _ _ p in
+      let (d, f) = and_parts _ _ q in
       record { south = leb-true 1 r a; north = ltb-true (r + 1) rows b; west = leb-true 2 c d; east = ltb-true (c + 2) columns f }
 
   pub allowed-true : Inner columns rows r c → allowed columns rows r c ≡ true
@@ -42,7 +42,7 @@ pub record Accepted (columns rows : ℕ) (map : List ℕ) : Type 0 where
 
 pub good-size : (n : ℕ) → bad_size n ≡ false → n ≤ 64
 unfolding bad_size
-good-size n e = ltb-false 64 n (or-none (eqb n 0) (ltb 64 n) e).1
+good-size n e = ltb-false 64 n (or_parts (eqb n 0) (ltb 64 n) e).1
 
 -- and what is 1 to 64 is no bad size
 pub size-good : (n : ℕ) → 1 ≤ n → n ≤ 64 → bad_size n ≡ false
@@ -83,7 +83,7 @@ accepted {columns} {rows} {map} h =
       bytes = good-bytes map no_bytes;
       placed =
           λ r c e.
-          let (on, b) = and_both {a = on_mesh (mesh columns rows map) r c} e in
+          let (on, b) = and_parts (on_mesh (mesh columns rows map) r c) _ e in
           let (p, q) = on-mesh (mesh columns rows map) r c on in
           let i : r * columns + c < length map = rw size (index-within columns r c q rows p) in
           rw (index-row columns r c q, index-column columns r c q) at (well-placed columns rows map no-placed (r * columns + c) i b);

@@ -1,11 +1,11 @@
 -- The map without faults. Assumes nothing.
 use Rattle.std.proofs.Common.{◌≡◌, refl, inl, inr, false, List, ℕ, ◌+◌, ◌*◌, eq-eqb, ltb, replicate}
-use lib.ListN.{length-replicate, get_or-replicate}
+use Rattle.std.proofs.lemmas.Bool.{cases_Bool}
+use Rattle.std.proofs.lemmas.List.{length-replicate, get_or-replicate}
 use Rattle.mesh.specs.Mesh.{mesh, on_mesh}
 use Rattle.mesh.specs.Tests.{first}
 use Rattle.mesh.specs.Nodes.{is_bad, bad}
 use Rattle.mesh.specs.Maps.{bad_size, bad_length, bad_byte, misplaced_at, misplaced, map_tests}
-use Rattle.mesh.proofs.Bools.{value}
 use Rattle.mesh.proofs.Hops.{on-mesh}
 use Rattle.mesh.proofs.Index.{index-within}
 use Rattle.mesh.proofs.Some.{none-same}
@@ -39,7 +39,7 @@ module _ (columns rows : ℕ) where
   pub no-faults-bad : (r c : ℕ) → bad (mesh columns rows (no_faults columns rows)) r c ≡ false
   unfolding bad is_bad
   no-faults-bad r c =
-      elim (value (on_mesh (mesh columns rows (no_faults columns rows)) r c)) [
+      elim (cases_Bool (on_mesh (mesh columns rows (no_faults columns rows)) r c)) [
         | inl e ↦
             let (i, j) = on-mesh (mesh columns rows (no_faults columns rows)) r c e in
             rw (e, get_or-replicate {A = ℕ} (columns * rows) (r * columns + c) 0 0 (index-within columns r c j rows i))

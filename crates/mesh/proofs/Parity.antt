@@ -2,7 +2,7 @@
 -- with each column.
 -- Assumes nothing.
 use Rattle.std.proofs.Common.{◌≡◌, refl, sym, ◌∙◌, not, ℕ, zero, suc, ◌+◌, ◌-◌, ◌%◌, ◌<◌, mod-lt, arith}
-use native.Mathlib.Nat.{mod-add-mod}
+use Rattle.std.proofs.Math.Nat.{mod-add-mod}
 use Rattle.mesh.specs.declared.Network.{Network}
 use Rattle.mesh.specs.declared.Network.TheVariants.{First, Second}
 use Rattle.mesh.specs.Parity.{remainder, permits_west, turns_west}

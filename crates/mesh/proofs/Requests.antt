@@ -1,12 +1,11 @@
 -- What it says that none of refusals 6 to 9 applies. Assumes nothing.
 use Rattle.std.proofs.Common.{◌≡◌, refl, true, false, ◌<◌}
-use borrow.Author.Tests.{not-false}
+use Rattle.std.proofs.lemmas.Bool.{or_parts, not-false}
 use Rattle.mesh.specs.declared.Network.{Network}
 use Rattle.mesh.specs.declared.Place.{Place}
 use Rattle.mesh.specs.Mesh.{Mesh}
 use Rattle.mesh.specs.Tests.{first}
 use Rattle.mesh.specs.Requests.{off_mesh, in_block, block_near_in_row, unserved, place_tests, trip_tests, request_tests}
-use Rattle.mesh.proofs.Bools.{or-none}
 use Rattle.mesh.proofs.Hops.{on-mesh}
 use Rattle.mesh.proofs.Tests.{numbered, NoneHolds, clear-before, first-none}
 
@@ -50,8 +49,8 @@ module _ (w : Mesh) (s d : Place) where
   unfolding NoneHolds place_tests
   placed h =
       let (off, (within, _)) = first-none _ place-numbered h in
-      let on = or-none (off_mesh w s) (off_mesh w d) off in
-      let free = or-none (in_block w s) (in_block w d) within in
+      let on = or_parts (off_mesh w s) (off_mesh w d) off in
+      let free = or_parts (in_block w s) (in_block w d) within in
       record { source-on = on.0; destination-on = on.1; source_free = free.0; destination-free = free.1 }
 
   pub request : {n : Network} → first (request_tests n w s d) ≡ 0 → Request n w s d

@@ -1,15 +1,15 @@
 -- Laws of `some`, for a list that is looked through from the front. Assumes nothing.
 use Rattle.std.proofs.Common.{◌≡◌, refl, sym, ap, ◌∙◌, Bool, true, false, ◌||◌, List, [], ◌∷◌, ℕ, zero, suc, ◌+◌, ◌≤◌, ◌<◌, add-zero, add-suc, suc-add, add-one, arith, length, get_or, set, replicate, drop, drop_of_length-le, drop-cons}
-use mathlib.Core.Bool.{or_assoc, or-false}
+use Rattle.std.proofs.lemmas.Bool.{or_parts}
+use Rattle.std.proofs.Math.Bool.{or_assoc, or-false}
 use Rattle.mesh.specs.Maps.{some}
-use Rattle.mesh.proofs.Bools.{or-none}
 
 pub none_passes : (t : ℕ → ℕ → Bool) (i : ℕ) (xs : List ℕ) → some t i xs ≡ false → (j : ℕ) → j < length xs → t (i + j) (get_or xs j 0) ≡ false
 unfolding some
 none_passes t i [] e j h = absurd (omega arith)
-none_passes t i (x ∷ xs) e zero h = rw add-zero (or-none (t i x) (some t (suc i) xs) e).0
+none_passes t i (x ∷ xs) e zero h = rw add-zero (or_parts (t i x) (some t (suc i) xs) e).0
 none_passes t i (x ∷ xs) e (suc j) h =
-    rw (add-suc, ← suc-add) (none_passes t (suc i) xs (or-none (t i x) (some t (suc i) xs) e).1 j (omega arith))
+    rw (add-suc, ← suc-add) (none_passes t (suc i) xs (or_parts (t i x) (some t (suc i) xs) e).1 j (omega arith))
 
 -- a test that x does not pass, wherever it stands
 pub none-same : (t : ℕ → ℕ → Bool) (x : ℕ) → ((i : ℕ) → t i x ≡ false) → (n i : ℕ) → some t i (replicate n x) ≡ false
@@ -21,9 +21,9 @@ none-same t x h (suc n) i = rw (h i) (none-same t x h n (suc i))
 pub none-set : (t : ℕ → ℕ → Bool) (i : ℕ) (xs : List ℕ) (k y : ℕ) → t (i + k) y ≡ false → some t i xs ≡ false → some t i (set xs k y) ≡ false
 unfolding some
 none-set t i [] k y h e = refl
-none-set t i (x ∷ xs) zero y h e = rw (rw add-zero at h) (or-none (t i x) (some t (suc i) xs) e).1
+none-set t i (x ∷ xs) zero y h e = rw (rw add-zero at h) (or_parts (t i x) (some t (suc i) xs) e).1
 none-set t i (x ∷ xs) (suc k) y h e =
-    let (a, b) = or-none (t i x) (some t (suc i) xs) e in
+    let (a, b) = or_parts (t i x) (some t (suc i) xs) e in
     rw a (none-set t (suc i) xs k y (rw (suc-add, ← add-suc) h) b)
 
 -- of the numbers from index i on

@@ -1,9 +1,9 @@
 -- Laws of tests in a row: what the first ones refuse stays refused, and where none of them holds those after them count. Assumes nothing.
 use Rattle.std.proofs.Common.{Result, Ok, Err, ◌≡◌, refl, sym, ◌∙◌, Bool, true, false, cond, ◌&&◌, List, [], ◌∷◌, ◌++◌, ℕ, zero, suc, ◌≤◌, arith, leb-true, ltb-true, leb, ltb}
+use Rattle.std.proofs.lemmas.Bool.{and_parts}
 use Rattle.mesh.specs.declared.Refusal.{Refusal}
 use Rattle.mesh.specs.Tests.{Test, first}
 use Rattle.mesh.specs.Numbers.{number, checked_number}
-use Rattle.mesh.proofs.Bools.{and_both}
 use Rattle.mesh.proofs.Numbers.{number-some}
 
 -- no test has the number 0, which says that none holds
@@ -29,10 +29,10 @@ first_some k (t ∷ ts) us h = by t.holds (first_some k ts us) h
 pub first-none : (ts : List Test) → numbered ts ≡ true → first ts ≡ 0 → NoneHolds ts
 unfolding first numbered NoneHolds
 first-none [] n h = tt
-first-none (t ∷ ts) n h = by t.holds (first-none ts (and_both {a = ltb 0 t.number} n).1) h
+first-none (t ∷ ts) n h = by t.holds (first-none ts (and_parts (ltb 0 t.number) _ n).1) h
   where
     by : (b : Bool) → (first ts ≡ 0 → NoneHolds ts) → cond b t.number (first ts) ≡ 0 → (b ≡ false) × NoneHolds ts
-    by true rest h = absurd (omega (arith, ltb-true 0 t.number (and_both n).0))
+    by true rest h = absurd (omega (arith, ltb-true 0 t.number (and_parts _ _ n).0))
     by false rest h = (refl, rest h)
 
 -- no test has a number above m
@@ -43,10 +43,10 @@ numbered_to m (t ∷ ts) = leb t.number m && numbered_to m ts
 pub first-most : (m : ℕ) (ts : List Test) → numbered_to m ts ≡ true → first ts ≤ m
 unfolding first numbered_to
 first-most m [] n = omega arith
-first-most m (t ∷ ts) n = by t.holds (first-most m ts (and_both {a = leb t.number m} n).1)
+first-most m (t ∷ ts) n = by t.holds (first-most m ts (and_parts (leb t.number m) _ n).1)
   where
     by : (b : Bool) → first ts ≤ m → cond b t.number (first ts) ≤ m
-    by true rest = leb-true t.number m (and_both n).0
+    by true rest = leb-true t.number m (and_parts _ _ n).0
     by false rest = rest
 
 first_next : (ts us : List Test) → NoneHolds ts → first (ts ++ us) ≡ first us

@@ -1,6 +1,6 @@
 -- A send as if alone: with room for its letters a call of Route does the same whatever is free, so with room for all a table does too. Assumes nothing.
 use Rattle.std.proofs.Common.{◌≡◌, refl, ap, ◌≢◌, List, [], ◌∷◌, map, ℕ, zero, suc, ◌*◌, ◌≤◌, arith, length, drop, length-append, length-drop}
-use native.Mathlib.Decide.{dec_le}
+use Rattle.std.proofs.Math.Decide.{dec_le}
 use Rattle.mesh.specs.declared.Heading.{Heading}
 use Rattle.mesh.specs.declared.Network.{Network}
 use Rattle.mesh.specs.Headings.{letters}

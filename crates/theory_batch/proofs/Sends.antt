@@ -1,6 +1,6 @@
 -- The sends of a list: as many as its length holds fours. Assumes nothing.
 use Rattle.std.proofs.Common.{◌≡◌, refl, false, List, [], ◌∷◌, ℕ, ◌*◌, ◌/◌, ◌%◌, arith, eqb-true, length}
-use borrow.Author.Tests.{not-false}
+use Rattle.std.proofs.lemmas.Bool.{not-false}
 use Rattle.theory_batch.specs.Sends.{sends_of, uneven}
 
 pub sends-length : (xs : List ℕ) → length (sends_of xs) ≡ length xs / 4

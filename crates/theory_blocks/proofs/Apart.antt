@@ -1,8 +1,8 @@
 -- Rectangles of bad nodes with free rings are apart from each other, and what that says of a list of them. Assumes nothing.
 use Rattle.std.proofs.Common.{◌≡◌, refl, sym, ◌∙◌, ◌⊎◌, inl, inr, Bool, List, [], ◌∷◌, ℕ, pred, ◌+◌, ◌<◌, min, max, arith}
+use Rattle.std.proofs.Math.Decide.{dec_le}
 use mathlib.Core.List.Memᴰ
 use mathlib.Core.List.{Memᴰ}
-use native.Mathlib.Decide.{dec_le}
 use Rattle.mesh.specs.Blocks.{Block}
 use Rattle.mesh.proofs.Bools.{true-false}
 use Rattle.theory_blocks.specs.Blocks.{Within, OnRing, Apart, by-east, by-west, by-north, by-south}

@@ -1,8 +1,8 @@
 -- Grow each block by the row south of it and the two columns west of it: the grown blocks share no place and leave the mesh's last row and last
 -- two columns free, and no block's detour exceeds the places of the grown one. Assumes nothing.
 use Rattle.std.proofs.Common.{◌≡◌, refl, Bool, true, false, List, [], ◌∷◌, ℕ, zero, suc, ◌+◌, ◌-◌, ◌*◌, ◌≤◌, ◌<◌, arith}
+use Rattle.std.proofs.Math.Decide.{dec_le}
 use mathlib.Core.List.Memᴰ
-use native.Mathlib.Decide.{dec_le}
 use Rattle.mesh.specs.Blocks.{Block, reaches}
 use Rattle.mesh.specs.Walk.{detours}
 use Rattle.theory_blocks.specs.Blocks.{Within, Fits, Apart, by-east, by-west, by-north, by-south}

@@ -1,8 +1,9 @@
 -- Connected sets of bad nodes: a rectangle with a free ring is a block, and blocks that share a node are the same. Assumes nothing.
 use Rattle.std.proofs.Common.{◌≡◌, ◌↔◌, inl, inr, Bool, true, List, ℕ, suc, ◌≤◌, arith}
-use native.Mathlib.Decide.{le_ind}
+use Rattle.std.proofs.lemmas.Bool.{cases_Bool}
+use Rattle.std.proofs.Math.Decide.{le_ind}
 use Rattle.mesh.specs.Blocks.{Block, reaches}
-use Rattle.mesh.proofs.Bools.{true-false, value}
+use Rattle.mesh.proofs.Bools.{true-false}
 use Rattle.theory_blocks.specs.Blocks.{Neighbour, north, south, east, west, Joined, here, go, Unjoined, IsBlock, Within, Apart}
 use Rattle.theory_blocks.specs.Obstacles.{Listed, Walled, InBlock, IsListed, Pairs}
 use Rattle.theory_blocks.proofs.Rings.{reaches-told, reaches-not}
@@ -44,7 +45,7 @@ module _ {B : ℕ → ℕ → Bool} where
   -- a bad neighbour of a node of the rectangle is in the rectangle, since its ring is free
   walled-keeps : {b : Block} → Walled B b → {r c x y : ℕ} → Within b r c → Neighbour r c x y → B x y ≡ true → Within b x y
   walled-keeps {b} k {r} {c} {x} {y} i n e =
-      elim (value (reaches 0 0 b x y)) [
+      elim (cases_Bool (reaches 0 0 b x y)) [
         | inl h ↦ reaches-told 0 0 b x y h
         | inr h ↦
             let d = neighbour-close n in

@@ -1,10 +1,10 @@
 -- Runs of bad nodes along one line, and along lines side by side. Assumes nothing.
 use Rattle.std.proofs.Common.{◌≡◌, refl, sym, ◌∙◌, inl, inr, Bool, true, false, ◌&&◌, ℕ, zero, suc, ◌+◌, ◌-◌, ◌≤◌, ◌<◌, arith, le-leb}
-use mathlib.Core.Bool.{and-true}
-use native.Mathlib.Decide.{dec_lt, dec_le, le_ind}
-use borrow.Author.Tests.{lt-leb}
+use Rattle.std.proofs.lemmas.Bool.{cases_Bool, lt-leb}
+use Rattle.std.proofs.Math.Bool.{and-true}
+use Rattle.std.proofs.Math.Decide.{dec_lt, dec_le, le_ind}
 use Rattle.mesh.specs.Blocks.{run}
-use Rattle.mesh.proofs.Bools.{true-false, value}
+use Rattle.mesh.proofs.Bools.{true-false}
 use Rattle.theory_blocks.proofs.Rules.{before}
 
 -- P does not hold just before c, if there is a place before it
@@ -35,7 +35,7 @@ module _ (P : ℕ → Bool) where
   unfolding run
   run_holds zero c y p q = absurd (omega arith)
   run_holds (suc k) c y p q =
-      elim (value (P c)) [
+      elim (cases_Bool (P c)) [
         | inl e ↦
             let u = rw e at q in
             elim (dec_lt c y) [ yes h ↦ run_holds k (suc c) y h (omega arith) | no h ↦ let s : y ≡ c = omega arith in rw s e ]
@@ -48,7 +48,7 @@ module _ (P : ℕ → Bool) where
     unfolding run
     run_ends zero c y h q = out y (omega arith)
     run_ends (suc k) c y h q =
-        elim (value (P c)) [
+        elim (cases_Bool (P c)) [
           | inl e ↦ let u = rw e at q in run_ends k (suc c) y (omega arith) (omega arith)
           | inr e ↦ let u = rw e at q in let s : y ≡ c = omega arith in rw s e
         ]
@@ -80,7 +80,7 @@ lead P c e = go c e
     go : (c : ℕ) → P c ≡ true → Lead P c
     go zero e = now zero e (λ y q. absurd (omega arith))
     go (suc c) e =
-        elim (value (P c)) [
+        elim (cases_Bool (P c)) [
           | inr u ↦ now (suc c) e (λ y q. let s : y ≡ c = omega arith in rw s u)
           | inl u ↦
               let l = go c u in
@@ -105,7 +105,7 @@ module _ (P Q : ℕ → Bool) (alike : Alike P Q) where
   unfolding run
   same-run zero c e = refl
   same-run (suc k) c e =
-      elim (value (P c)) [
+      elim (cases_Bool (P c)) [
         | inl p ↦ let q = sym e ∙ p in rw (p, q, same-run k (suc c) (sym (rw (p, q) at (alike c))))
         | inr p ↦ let q = sym e ∙ p in rw (p, q)
       ]

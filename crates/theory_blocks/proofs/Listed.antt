@@ -1,10 +1,9 @@
 -- The list of blocks of a mesh whose marking no rule adds to: rectangles with free rings, which hold every bad node. Assumes nothing.
 use Rattle.std.proofs.Common.{◌≡◌, Bool, true, ℕ, ◌+◌, ◌*◌, ◌/◌, ◌%◌, ◌≤◌, arith, length}
-use borrow.Author.Tests.{not-true}
+use Rattle.std.proofs.lemmas.Bool.{and_parts, or_parts, not-true}
 use Rattle.mesh.specs.Mesh.{Mesh}
 use Rattle.mesh.specs.Nodes.{bad, ahead}
 use Rattle.mesh.specs.Blocks.{Block, corner, block_at, blocks}
-use Rattle.mesh.proofs.Bools.{and_both, or-none}
 use Rattle.mesh.proofs.Index.{index-row, index-column, index-within, same_index}
 use Rattle.theory_blocks.specs.Marking.{Closed}
 use Rattle.theory_blocks.specs.Blocks.{Apart}
@@ -20,8 +19,8 @@ module _ (B : ℕ → ℕ → Bool) (r c : ℕ) where
   corner-told : corner B r c ≡ true → Corner B r c
   unfolding corner ahead
   corner-told e =
-      let (a, d) = and_both {a = B r c} e in
-      let (w, s) = or-none (before (B r) 1 c) (before (column B c) 1 r) (not-true _ d) in
+      let (a, d) = and_parts (B r c) _ e in
+      let (w, s) = or_parts (before (B r) 1 c) (before (column B c) 1 r) (not-true _ d) in
       record { is-bad = a; west = before-begins (B r) c w; south = before-begins (column B c) r s }
 
   corner-true : Corner B r c → corner B r c ≡ true

@@ -1,9 +1,9 @@
 -- Where rounds come to rest is the least closed marking that holds the faults. Assumes nothing.
 use Rattle.std.proofs.Common.{◌≡◌, refl, sym, ◌∙◌, inl, inr, Bool, true, false, ◌||◌, List, ℕ, zero, suc, ◌+◌, ◌*◌, ◌<◌, zero-add, ltb-true, lt-ltb, ltb, length}
+use Rattle.std.proofs.lemmas.Bool.{and_parts, or_cases}
 use Rattle.mesh.specs.Mesh.{Mesh, on_mesh}
 use Rattle.mesh.specs.Nodes.{is_bad, bad, unsafe}
 use Rattle.mesh.specs.Rounds.{become, round, on, marked}
-use Rattle.mesh.proofs.Bools.{and_both, or_cases}
 use Rattle.mesh.proofs.Index.{index-row, index-column, index-within}
 use Rattle.theory_blocks.specs.Marking.{Closed, NoneBeyond, Holds}
 use Rattle.theory_blocks.proofs.Rules.{unsafe-holds, unsafe-mono}
@@ -20,8 +20,8 @@ pub bad-on-mesh : (w : Mesh) → NoneBeyond w.columns w.rows (bad w)
 unfolding bad on_mesh
 bad-on-mesh w =
     record {
-      row = λ r c e. ltb-true r w.rows (and_both (and_both e).0).0;
-      column = λ r c e. ltb-true c w.columns (and_both {a = ltb r w.rows} (and_both e).0).1;
+      row = λ r c e. ltb-true r w.rows (and_parts _ _ (and_parts _ _ e).0).0;
+      column = λ r c e. ltb-true c w.columns (and_parts (ltb r w.rows) _ (and_parts _ _ e).0).1;
     }
 
 pub bad-round : (w : Mesh) → length w.map ≡ w.columns * w.rows → (r c : ℕ) → r < w.rows → c < w.columns →

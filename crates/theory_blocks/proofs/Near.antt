@@ -1,9 +1,10 @@
 -- Refusal 8: some block has a node in a place's row, one or two columns away, exactly if one of four nodes of the row is bad; and exactly if
 -- the place is on a side of a ring. Assumes nothing.
 use Rattle.std.proofs.Common.{◌≡◌, sym, ◌∙◌, ◌↔◌, inl, inr, Bool, true, false, List, ℕ, pred, ◌+◌, ◌≤◌, min, max, arith}
+use Rattle.std.proofs.lemmas.Bool.{cases_Bool, or_cases}
 use Rattle.mesh.specs.Nodes.{ahead, near_in_row}
 use Rattle.mesh.specs.Blocks.{Block, within, some_block}
-use Rattle.mesh.proofs.Bools.{true-false, value, or_cases, bool-ext}
+use Rattle.mesh.proofs.Bools.{true-false, bool-ext}
 use Rattle.theory_blocks.specs.Blocks.{Within}
 use Rattle.theory_blocks.specs.Obstacles.{Obstacles, OnSomeSide}
 use Rattle.theory_blocks.proofs.Rules.{beside, Nearby, beside-nearby, nearby-second, nearby-in}
@@ -47,7 +48,7 @@ module _ {columns rows : ℕ} {B : ℕ → ℕ → Bool} {bs : List Block} (O : 
     -- what a course asks of its destination
     pub row-is-clear : some_near ≡ false → (y : ℕ) → c ≤ y + 2 → y ≤ c + 2 → B r y ≡ false
     row-is-clear far y l h =
-        elim (value (B r y)) [
+        elim (cases_Bool (B r y)) [
           | inr f ↦ f
           | inl b ↦
               let other : y ≡ c → ⊥ = λ s. true-false b (rw s free) in

@@ -1,7 +1,7 @@
 -- What a marking at rest looks like: its bad nodes lie in rectangles, each with a ring round it in which none is bad. Assumes nothing.
 use Rattle.std.proofs.Common.{◌≡◌, sym, ◌∙◌, Bool, true, false, ◌&&◌, ℕ, suc, pred, ◌+◌, ◌-◌, ◌≤◌, ◌<◌, arith}
-use mathlib.Core.Bool.{and-true, and-false, and_comm}
-use native.Mathlib.Decide.{dec_lt, dec_le}
+use Rattle.std.proofs.Math.Bool.{and-true, and-false, and_comm}
+use Rattle.std.proofs.Math.Decide.{dec_lt, dec_le}
 use Rattle.mesh.specs.Blocks.{Block, run, block_at}
 use Rattle.theory_blocks.specs.Blocks.{Within, OnRing}
 use Rattle.theory_blocks.specs.Obstacles.{Walled}

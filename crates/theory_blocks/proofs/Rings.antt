@@ -1,10 +1,10 @@
 -- A block's nodes, its ring and the blocks of a list, told by Bools and by records: each from the other. Assumes nothing.
 use Rattle.std.proofs.Common.{◌≡◌, refl, inl, inr, Bool, true, false, List, [], ◌∷◌, ℕ, arith, leb-true, ltb-true, le-leb, lt-ltb}
-use mathlib.Core.Bool.{or-true}
+use Rattle.std.proofs.lemmas.Bool.{cases_Bool, and_parts, or_cases, not-true}
+use Rattle.std.proofs.Math.Bool.{or-true}
 use mathlib.Core.List.Memᴰ
-use borrow.Author.Tests.{not-true}
 use Rattle.mesh.specs.Blocks.{Block, reaches, on_ring, some_block}
-use Rattle.mesh.proofs.Bools.{true-false, value, and_both, or_cases}
+use Rattle.mesh.proofs.Bools.{true-false}
 use Rattle.theory_blocks.specs.Blocks.{Reaches, OnRing}
 use Rattle.theory_blocks.specs.Obstacles.{Listed}
 
@@ -12,9 +12,9 @@ module _ (i j : ℕ) (b : Block) (r c : ℕ) where
   pub reaches-told : reaches i j b r c ≡ true → Reaches i j b r c
   unfolding reaches
   reaches-told e =
-      let (p, q) = and_both e in
-      let (s, n) = and_both p in
-      let (w, e) = and_both q in
+      let (p, q) = and_parts _ _ e in
+      let (s, n) = and_parts _ _ p in
+      let (w, e) = and_parts _ _ q in
       record { south = leb-true _ _ s; north = ltb-true _ _ n; west = leb-true _ _ w; east = ltb-true _ _ e }
 
   pub reaches-true : Reaches i j b r c → reaches i j b r c ≡ true
@@ -25,13 +25,13 @@ module _ (i j : ℕ) (b : Block) (r c : ℕ) where
   reaches-not e k = true-false (reaches-true k) e
 
   pub reaches-false : (Reaches i j b r c → ⊥) → reaches i j b r c ≡ false
-  reaches-false h = elim (value (reaches i j b r c)) [ inl e ↦ absurd (h (reaches-told e)) | inr e ↦ e ]
+  reaches-false h = elim (cases_Bool (reaches i j b r c)) [ inl e ↦ absurd (h (reaches-told e)) | inr e ↦ e ]
 
 module _ (b : Block) (r c : ℕ) where
   pub on_ring-told : on_ring b r c ≡ true → OnRing b r c
   unfolding on_ring
   on_ring-told e =
-      let (p, q) = and_both e in
+      let (p, q) = and_parts _ _ e in
       let n = reaches-told 1 2 b r c p in
       record { near = omega arith; outside = reaches-not 0 0 b r c (not-true _ q) }
 

@@ -1,11 +1,12 @@
 -- Rounds of the rules: what each adds, that they end, and their number: that of the first round in which nothing changes. Assumes nothing.
 use Rattle.std.proofs.Common.{◌≡◌, refl, ap, sym, ◌∙◌, inl, inr, Bool, true, false, List, [], ◌∷◌, ℕ, zero, suc, ◌+◌, ◌*◌, ◌/◌, ◌%◌, ◌≤◌, ◌<◌, add-zero, add-suc, suc-add, arith, length, get_or}
-use native.Mathlib.Decide.{dec_lt}
+use Rattle.std.proofs.lemmas.Bool.{cases_Bool}
+use Rattle.std.proofs.Math.Decide.{dec_lt}
 use Rattle.mesh.specs.Mesh.{Mesh}
 use Rattle.mesh.specs.Nodes.{how_many, bad, unsafe}
 use Rattle.mesh.specs.Rounds.{become, advance, round, on, same_list, later, settle, settled, marked, rounds}
 use Rattle.mesh.proofs.Lists.{same-eq, same_refl}
-use Rattle.mesh.proofs.Bools.{true-false, value}
+use Rattle.mesh.proofs.Bools.{true-false}
 use Rattle.mesh.proofs.Counts.{how_many-le}
 use Rattle.theory_blocks.specs.Rounds.{safe_nodes, unsafe_nodes, after, FirstQuiet}
 use Rattle.theory_blocks.proofs.Rules.{Reason, between-two, crossed, unsafe-reason}
@@ -69,7 +70,7 @@ unfolding settle
 settle-fuel zero k' w h h' = absurd (omega arith)
 settle-fuel (suc k) zero w h h' = absurd (omega arith)
 settle-fuel (suc k) (suc k') w h h' =
-    elim (value (same_list (round w) w.map)) [
+    elim (cases_Bool (same_list (round w) w.map)) [
       | inl e ↦ rw e
       | inr e ↦ rw e (ap later (settle-fuel k k' (on w (round w)) (omega (arith, unlike-less w e)) (omega (arith, unlike-less w e))))
     ]
@@ -79,7 +80,7 @@ pub settle-keeps : (M : List ℕ → Type 0) (k : ℕ) (w : Mesh) → ((m : List
 unfolding settle
 settle-keeps M zero w f i = i
 settle-keeps M (suc k) w f i =
-    elim (value (same_list (round w) w.map))
+    elim (cases_Bool (same_list (round w) w.map))
     [ inl e ↦ rw e i | inr e ↦ rw e (settle-keeps M k (on w (round w)) f (f w.map i)) ]
 
 pub marked-length : (w : Mesh) → length (marked w).map ≡ length w.map
@@ -96,7 +97,7 @@ settled-last w e = rw (e, same_refl w.map)
 pub settled-later : (w : Mesh) → length w.map ≡ w.columns * w.rows → (round w ≡ w.map → ⊥) → settled w ≡ later (settled (on w (round w)))
 unfolding settle
 settled-later w size changed =
-    elim (value (same_list (round w) w.map)) [
+    elim (cases_Bool (same_list (round w) w.map)) [
       | inl e ↦ absurd (changed (same-eq _ _ e))
       | inr e ↦
           rw e
@@ -111,7 +112,7 @@ pub rounds-within : (k : ℕ) (w : Mesh) → (settle k w).rounds + unsafe_nodes 
 unfolding settle
 rounds-within zero w = omega arith
 rounds-within (suc k) w =
-    elim (value (same_list (round w) w.map)) [
+    elim (cases_Bool (same_list (round w) w.map)) [
       | inl e ↦ rw e (omega arith)
       | inr e ↦ rw e (omega (arith, rounds-within k (on w (round w)), unlike-less w e, round-turned w))
     ]
@@ -145,7 +146,7 @@ within-quiet : (k : ℕ) (w : Mesh) → safe_nodes w.map < k → FirstQuiet w (s
 unfolding settle
 within-quiet zero w h = absurd (omega arith)
 within-quiet (suc k) w h =
-    elim (value (same_list (round w) w.map)) [
+    elim (cases_Bool (same_list (round w) w.map)) [
       | inl e ↦ rw e (last-quiet w (same-eq _ _ e))
       | inr e ↦
           rw e (later-quiet w (unlike w e) (within-quiet k (on w (round w)) (omega (arith, unlike-less w e))))
@@ -196,4 +197,4 @@ pub no-faults-quiet : (w : Mesh) → ((r c : ℕ) → bad w r c ≡ false) → r
 unfolding round
 no-faults-quiet w none =
     advance-none _ 0 w.map
-    (λ i. elim (value (unsafe (bad w) (i / w.columns) (i % w.columns))) [ inr e ↦ e | inl e ↦ absurd (no-reason none (unsafe-reason (bad w) _ _ e)) ])
+    (λ i. elim (cases_Bool (unsafe (bad w) (i / w.columns) (i % w.columns))) [ inr e ↦ e | inl e ↦ absurd (no-reason none (unsafe-reason (bad w) _ _ e)) ])

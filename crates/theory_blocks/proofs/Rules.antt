@@ -1,9 +1,10 @@
 -- The rules that make a node unsafe, told by places, and what a marking that no rule adds to looks like in two rows. Assumes nothing.
 use Rattle.std.proofs.Common.{◌≡◌, refl, inl, inr, Bool, true, false, ◌&&◌, ◌||◌, ℕ, suc, ◌+◌, ◌-◌, ◌≤◌, ◌<◌, add-one, arith, leb-true, le-leb, leb}
-use mathlib.Core.Bool.{and_comm, or-true}
-use native.Mathlib.Decide.{dec_lt, dec_le}
+use Rattle.std.proofs.lemmas.Bool.{cases_Bool, and_parts, and_from, or_cases}
+use Rattle.std.proofs.Math.Bool.{and_comm, or-true}
+use Rattle.std.proofs.Math.Decide.{dec_lt, dec_le}
 use Rattle.mesh.specs.Nodes.{ahead, upright, rule_a, rule_b, unsafe}
-use Rattle.mesh.proofs.Bools.{true-false, value, and_both, and_intro, or_cases, bool-ext}
+use Rattle.mesh.proofs.Bools.{true-false, bool-ext}
 use Rattle.theory_blocks.specs.Marking.{Closed, NoneBeyond, Holds}
 
 -- A line of nodes P is a row, B r, or a column.
@@ -36,7 +37,7 @@ module _ (P : ℕ → Bool) (n : ℕ) where
       elim (or_cases (P (n + k)) (before P k n) e) [
         | inl u ↦ record { place = n + k; here = u; other = omega arith; low = omega arith; high = omega arith }
         | inr u ↦
-            let (f, v) = and_both {a = leb k n} u in
+            let (f, v) = and_parts (leb k n) _ u in
             let i = leb-true k n f in
             record { place = n - k; here = v; other = omega arith; low = omega arith; high = omega arith }
       ]
@@ -105,16 +106,16 @@ module _ (B : ℕ → ℕ → Bool) (r c : ℕ) where
         | inl a ↦
             elim (or_cases (B r (c + 1) && before (B r) 1 c) (beside (B r) 1 c && beside (column B c) 1 r) a) [
               | inl h ↦
-                  let (p, q) = and_both {a = B r (c + 1)} h in
-                  let (f, w) = and_both {a = leb 1 c} q in
+                  let (p, q) = and_parts (B r (c + 1)) _ h in
+                  let (f, w) = and_parts (leb 1 c) _ q in
                   let i = leb-true 1 c f in
                   between-two (c - 1) (omega arith) w (rw add-one at p)
               | inr h ↦
-                  let (p, q) = and_both {a = beside (B r) 1 c} h in
+                  let (p, q) = and_parts (beside (B r) 1 c) _ h in
                   crossed (beside-nearby (column B c) r 1 1 (omega arith) (omega arith) q) (beside-nearby (B r) c 1 2 (omega arith) (omega arith) p)
             ]
         | inr b ↦
-            let (q, p) = and_both {a = beside (column B c) 1 r} b in
+            let (q, p) = and_parts (beside (column B c) 1 r) _ b in
             crossed (beside-nearby (column B c) r 1 1 (omega arith) (omega arith) q) (beside-nearby (B r) c 2 2 (omega arith) (omega arith) p)
       ]
 
@@ -132,7 +133,7 @@ reasons-closed columns rows B f =
     record {
       rests =
           λ r c p q e.
-          elim (value (unsafe B r c)) [ inr h ↦ h | inl h ↦ true-false (f r c (unsafe-reason B r c h)) e ];
+          elim (cases_Bool (unsafe B r c)) [ inr h ↦ h | inl h ↦ true-false (f r c (unsafe-reason B r c h)) e ];
     }
 
 -- What closedness comes to, with no word of rules or of places before the first: in two rows next to each other, and in one.
@@ -144,7 +145,7 @@ pub record Settled (columns rows : ℕ) (B : ℕ → ℕ → Bool) : Type 0 wher
 
 module _ {columns rows : ℕ} {B : ℕ → ℕ → Bool} (closed : Closed columns rows B) where
   pub unsafe-holds : (r c : ℕ) → r < rows → c < columns → unsafe B r c ≡ true → B r c ≡ true
-  unsafe-holds r c p q u = elim (value (B r c)) [ inl e ↦ e | inr e ↦ true-false u (closed.rests r c p q e) ]
+  unsafe-holds r c p q u = elim (cases_Bool (B r c)) [ inl e ↦ e | inr e ↦ true-false u (closed.rests r c p q e) ]
 
   module _ (on-mesh : NoneBeyond columns rows B) where
     -- (x, c) and (r, y) are bad, next to (r, c) and one or two from it
@@ -162,19 +163,19 @@ module _ {columns rows : ℕ} {B : ℕ → ℕ → Bool} (closed : Closed column
           | yes h ↦
               bool-ext _ _
               (λ e.
-              let (a, b) = and_both e in
-              and_intro (fills (suc r) y r y' a b (omega arith)) (fills r y' (suc r) y b a (omega arith)))
+              let (a, b) = and_parts _ _ e in
+              and_from _ _ (fills (suc r) y r y' a b (omega arith)) (fills r y' (suc r) y b a (omega arith)))
               (λ e.
-              let (a, b) = and_both e in
-              and_intro (fills r y (suc r) y' a b (omega arith)) (fills (suc r) y' r y b a (omega arith)))
+              let (a, b) = and_parts _ _ e in
+              and_from _ _ (fills r y (suc r) y' a b (omega arith)) (fills (suc r) y' r y b a (omega arith)))
         ]
 
     between : (r y : ℕ) → B r (suc y) ≡ false → B r y && B r (suc (suc y)) ≡ false
     between r y e =
-        elim (value (B r y && B r (suc (suc y)))) [
+        elim (cases_Bool (B r y && B r (suc (suc y)))) [
           | inr h ↦ h
           | inl h ↦
-              let (a, b) = and_both h in
+              let (a, b) = and_parts _ _ h in
               true-false
               (reason-unsafe B r (suc y) (between-two y refl a b))
               (closed.rests r (suc y) (on-mesh.row r y a) (omega (arith, on-mesh.column r (suc (suc y)) b)) e)
@@ -185,6 +186,6 @@ module _ {columns rows : ℕ} {B : ℕ → ℕ → Bool} (closed : Closed column
         record {
           near = near;
           between = between;
-          east-edge = λ x y h. elim (value (B x y)) [ inr e ↦ e | inl e ↦ absurd (omega (arith, on-mesh.column x y e)) ];
-          north-edge = λ x y h. elim (value (B x y)) [ inr e ↦ e | inl e ↦ absurd (omega (arith, on-mesh.row x y e)) ];
+          east-edge = λ x y h. elim (cases_Bool (B x y)) [ inr e ↦ e | inl e ↦ absurd (omega (arith, on-mesh.column x y e)) ];
+          north-edge = λ x y h. elim (cases_Bool (B x y)) [ inr e ↦ e | inl e ↦ absurd (omega (arith, on-mesh.row x y e)) ];
         }

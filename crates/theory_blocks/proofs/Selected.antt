@@ -1,10 +1,10 @@
 -- What a list of selected values holds. Assumes nothing.
 use Rattle.std.proofs.Common.{◌≡◌, refl, inl, inr, Bool, true, ℕ, zero, suc, ◌+◌, ◌≤◌, ◌<◌, arith, length}
+use Rattle.std.proofs.lemmas.Bool.{cases_Bool}
+use Rattle.std.proofs.Math.Decide.{dec_lt}
 use mathlib.Core.List.Memᴰ
 use mathlib.Core.List.{Memᴰ}
-use native.Mathlib.Decide.{dec_lt}
 use Rattle.mesh.specs.Blocks.{select}
-use Rattle.mesh.proofs.Bools.{value}
 use Rattle.theory_blocks.specs.Obstacles.{Pairs, none, more}
 
 module _ {A : Type 0} (t : ℕ → Bool) (f : ℕ → A) where
@@ -20,7 +20,7 @@ module _ {A : Type 0} (t : ℕ → Bool) (f : ℕ → A) where
   unfolding select
   mem-selected zero i a m = absurd (Memᴰ.not-nil m)
   mem-selected (suc n) i a m =
-      elim (value (t i)) [
+      elim (cases_Bool (t i)) [
         | inl e ↦
             elim (Memᴰ.cases_cons (rw e at m))
             [ inl q ↦ record { index = i; from = omega arith; below = omega arith; test = e; is = q } | inr u ↦ later (mem-selected n (suc i) a u) ]
@@ -37,7 +37,7 @@ module _ {A : Type 0} (t : ℕ → Bool) (f : ℕ → A) where
       elim (dec_lt i j) [
         | yes h ↦
             let m = selected-mem n (suc i) j h (omega arith) e in
-            elim (value (t i)) [ inl u ↦ rw u (Memᴰ.tail m) | inr u ↦ rw u m ]
+            elim (cases_Bool (t i)) [ inl u ↦ rw u (Memᴰ.tail m) | inr u ↦ rw u m ]
         | no h ↦
             let s : j ≡ i = omega arith in
             rw (s, rw s at e) (Memᴰ.head refl)
@@ -47,7 +47,7 @@ module _ {A : Type 0} (t : ℕ → Bool) (f : ℕ → A) where
   unfolding select
   selected-pairs R r zero i = none
   selected-pairs R r (suc n) i =
-      elim (value (t i)) [
+      elim (cases_Bool (t i)) [
         | inl e ↦
             rw e
             (more {a = f i}
@@ -61,4 +61,4 @@ module _ {A : Type 0} (t : ℕ → Bool) (f : ℕ → A) where
   select-few zero i = omega arith
   select-few (suc n) i =
       let few = select-few n (suc i) in
-      elim (value (t i)) [ inl e ↦ rw e (omega arith) | inr e ↦ rw e (omega arith) ]
+      elim (cases_Bool (t i)) [ inl e ↦ rw e (omega arith) | inr e ↦ rw e (omega arith) ]

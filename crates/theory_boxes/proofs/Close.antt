@@ -1,6 +1,7 @@
 -- Boxes that are close, told by their numbers, and the box around two. Assumes nothing.
 use Rattle.std.proofs.Common.{◌≡◌, inl, inr, true, false, ℕ, ◌+◌, ◌-◌, ◌≤◌, ◌<◌, max, arith, ltb-true, lt-ltb, ltb}
-use Rattle.mesh.proofs.Bools.{true-false, value, and_both, and_intro, bool-ext}
+use Rattle.std.proofs.lemmas.Bool.{cases_Bool, and_parts, and_from}
+use Rattle.mesh.proofs.Bools.{true-false, bool-ext}
 use Rattle.theory_boxes.specs.Boxes.{Box, apart, columns_apart, rows_apart, close, around}
 
 -- less than 3 apart in column and less than 2 apart in row
@@ -31,7 +32,7 @@ module _ (a b : Box) where
   pub close-told : close a b ≡ true → Close a b
   unfolding close columns_apart rows_apart
   close-told e =
-      let (p, q) = and_both e in
+      let (p, q) = and_parts _ _ e in
       let c = near-told a.low_column a.high-column b.low_column b.high-column _ p in
       let r = near-told a.low-row a.high-row b.low-row b.high-row _ q in
       omega arith
@@ -39,7 +40,7 @@ module _ (a b : Box) where
   pub close-true : Close a b → close a b ≡ true
   unfolding close columns_apart rows_apart
   close-true k =
-      and_intro
+      and_from _ _
       (near-true a.low_column a.high-column b.low_column b.high-column _ (omega arith) (omega arith) (omega arith))
       (near-true a.low-row a.high-row b.low-row b.high-row _ (omega arith) (omega arith) (omega arith))
 
@@ -47,7 +48,7 @@ module _ (a b : Box) where
   far-told e k = true-false (close-true k) e
 
   pub far-true : (Close a b → ⊥) → close a b ≡ false
-  far-true h = elim (value (close a b)) [ inl e ↦ absurd (h (close-told e)) | inr e ↦ e ]
+  far-true h = elim (cases_Bool (close a b)) [ inl e ↦ absurd (h (close-told e)) | inr e ↦ e ]
 
   pub around-first : Encloses (around a b) a
   unfolding around

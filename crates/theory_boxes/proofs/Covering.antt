@@ -1,9 +1,10 @@
 -- The nodes of boxes that are far from each other are a marking that no rule adds to. Assumes nothing.
 use Rattle.std.proofs.Common.{◌≡◌, refl, inl, inr, Bool, true, false, ◌&&◌, ◌||◌, List, [], ◌∷◌, ℕ, suc, ◌+◌, ◌≤◌, min, max, arith, leb-true, le-leb, leb}
-use mathlib.Core.Bool.{or-true}
+use Rattle.std.proofs.lemmas.Bool.{and_parts, or_cases}
+use Rattle.std.proofs.Math.Bool.{or-true}
 use mathlib.Core.List.Memᴰ
 use mathlib.Core.List.{Memᴰ}
-use Rattle.mesh.proofs.Bools.{true-false, and_both, or_cases}
+use Rattle.mesh.proofs.Bools.{true-false}
 use Rattle.theory_blocks.specs.Marking.{Closed}
 use Rattle.theory_blocks.specs.Obstacles.{Pairs}
 use Rattle.theory_blocks.proofs.Rules.{Reason, between-two, crossed, reasons-closed}
@@ -29,9 +30,9 @@ module _ (r c : ℕ) where
   in_told : (b : Box) → in_box b r c ≡ true → In b r c
   unfolding in_box
   in_told b e =
-      let (p, q) = and_both {a = leb b.low-row r && leb r b.high-row} e in
-      let (s, n) = and_both p in
-      let (w, e) = and_both q in
+      let (p, q) = and_parts (leb b.low-row r && leb r b.high-row) _ e in
+      let (s, n) = and_parts _ _ p in
+      let (w, e) = and_parts _ _ q in
       record { south = leb-true _ _ s; north = leb-true _ _ n; west = leb-true _ _ w; east = leb-true _ _ e }
 
   in-true : (b : Box) → In b r c → in_box b r c ≡ true

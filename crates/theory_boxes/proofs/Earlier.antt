@@ -1,6 +1,7 @@
 -- By lowest row, then lowest column: which of two boxes is earlier, and that this is an order. Assumes nothing.
 use Rattle.std.proofs.Common.{◌≡◌, refl, sym, inl, inr, Bool, true, false, ◌&&◌, ◌≤◌, ◌<◌, arith, ltb-true, ltb-false, lt-ltb, eqb-true, eq-eqb, ltb, eqb}
-use Rattle.mesh.proofs.Bools.{value, and_both, and_right, or_cases, or-none}
+use Rattle.std.proofs.lemmas.Bool.{cases_Bool, and_parts, or_cases, or_parts}
+use Rattle.mesh.proofs.Bools.{and_right}
 use Rattle.theory_boxes.specs.Boxes.{Box, earlier}
 
 pub record Before (a b : Box) : Type 0 where
@@ -28,14 +29,14 @@ module _ (a b : Box) where
       elim (or_cases lower (level && further-west) e) [
         | inl h ↦ record { rows = omega (arith, ltb-true); columns = λ s. absurd (omega (arith, ltb-true)) }
         | inr h ↦
-            let (p, q) = and_both {a = level} h in
+            let (p, q) = and_parts level _ h in
             record { rows = omega (arith, eqb-true); columns = λ s. omega (arith, ltb-true) }
       ]
 
   pub earlier-true : Before a b → earlier a b ≡ true
   unfolding earlier
   earlier-true p =
-      elim (value lower) [
+      elim (cases_Bool lower) [
         | inl e ↦ rw e
         | inr e ↦ let s : a.low-row ≡ b.low-row = omega (arith, ltb-false, p.rows) in rw (e, eq-eqb _ _ s, lt-ltb _ _ (p.columns s))
       ]
@@ -44,7 +45,7 @@ module _ (a b : Box) where
   pub later-told : earlier a b ≡ false → Differ a b → Before b a
   unfolding earlier
   later-told e d =
-      let (p, q) = or-none lower (level && further-west) e in
+      let (p, q) = or_parts lower (level && further-west) e in
       record {
         rows = omega (arith, ltb-false);
         columns = λ s. let r = and_right level further-west (eq-eqb _ _ (sym s)) q in omega (arith, ltb-false, d.differ (sym s));

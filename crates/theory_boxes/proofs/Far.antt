@@ -1,8 +1,8 @@
 -- Lists of boxes of which no two are close. Assumes nothing.
 use Rattle.std.proofs.Common.{◌≡◌, ◌∙◌, ◌⊎◌, inl, inr, false, List, [], ◌∷◌}
+use Rattle.std.proofs.lemmas.Bool.{or_parts}
 use mathlib.Core.List.Memᴰ
 use mathlib.Core.List.{Memᴰ}
-use Rattle.mesh.proofs.Bools.{or-none}
 use Rattle.theory_blocks.specs.Obstacles.{Pairs, none, more}
 use Rattle.theory_blocks.proofs.Apart.{pairs-any}
 use Rattle.theory_boxes.specs.Boxes.{Box, close, close_to, some_close}
@@ -16,14 +16,14 @@ close_to-far : (a : Box) (l : List Box) → close_to a l ≡ false → (b : Box)
 unfolding close_to
 close_to-far a [] e b i = absurd (Memᴰ.not-nil i)
 close_to-far a (c ∷ l) e b i =
-    let (p, q) = or-none (close a c) (close_to a l) e in
+    let (p, q) = or_parts (close a c) (close_to a l) e in
     elim (Memᴰ.cases_cons i) [ inl h ↦ record { far = rw h p } | inr j ↦ close_to-far a l q b j ]
 
 pub none-close : (l : List Box) → some_close l ≡ false → Pairs Far l
 unfolding some_close
 none-close [] e = none
 none-close (a ∷ l) e =
-    let (p, q) = or-none (close_to a l) (some_close l) e in
+    let (p, q) = or_parts (close_to a l) (some_close l) e in
     more (close_to-far a l p) (none-close l q)
 
 far-sym : (a b : Box) → Far a b → Far b a

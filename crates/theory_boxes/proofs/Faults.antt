@@ -1,10 +1,10 @@
 -- The boxes of the faults of a map. Assumes nothing.
 use Rattle.std.proofs.Common.{◌≡◌, refl, inl, inr, Bool, true, List, [], ◌∷◌, ℕ, zero, suc, ◌+◌, ◌*◌, ◌/◌, ◌%◌, ◌≤◌, ◌<◌, zero-add, add-zero, add-suc, suc-add, arith, eqb, length, get_or}
+use Rattle.std.proofs.lemmas.Bool.{cases_Bool, and_parts}
 use mathlib.Core.List.{Memᴰ}
 use Rattle.mesh.specs.Mesh.{Mesh, mesh, on_mesh}
 use Rattle.mesh.specs.Nodes.{is_bad, how_many, bad}
 use Rattle.mesh.specs.Blocks.{select}
-use Rattle.mesh.proofs.Bools.{value, and_both}
 use Rattle.mesh.proofs.Hops.{on-mesh, is-on-mesh}
 use Rattle.mesh.proofs.Index.{place_of, index-row, index-column, index-within}
 use Rattle.mesh.proofs.Maps.{Accepted}
@@ -34,7 +34,7 @@ module _ (w : Mesh) (size : length w.map ≡ w.columns * w.rows) where
   pub faults-mem : (r c : ℕ) → bad w r c ≡ true → Memᴰ (node_box r c) (fault_boxes w)
   unfolding fault_boxes bad
   faults-mem r c e =
-      let (on, b) = and_both {a = on_mesh w r c} e in
+      let (on, b) = and_parts (on_mesh w r c) _ e in
       let (p, q) = on-mesh w r c on in
       rw (index-row w.columns r c q, index-column w.columns r c q) at
       (selected-mem (λ i. is_bad (get_or w.map i 0)) (λ i. node_box (i / w.columns) (i % w.columns)) (length w.map) 0 (r * w.columns + c)
@@ -56,7 +56,7 @@ selected-ones t f [] i h = refl
 selected-ones t f (x ∷ xs) i h =
     let here : t i ≡ eqb x 1 = rw add-zero at (h 0 (omega arith)) in
     let rest = selected-ones t f xs (suc i) (λ j k. rw (suc-add, ← add-suc) (h (suc j) (omega arith))) in
-    elim (value (eqb x 1)) [ inl e ↦ rw (here, e) (omega arith) | inr e ↦ rw (here, e) (omega arith) ]
+    elim (cases_Bool (eqb x 1)) [ inl e ↦ rw (here, e) (omega arith) | inr e ↦ rw (here, e) (omega arith) ]
 
 -- of a map that refusals 1 to 5 let pass
 pub faults-counted : {columns rows : ℕ} {map : List ℕ} → Accepted columns rows map → length (fault_boxes (mesh columns rows map)) ≡ how_many 1 map

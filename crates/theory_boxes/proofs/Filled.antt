@@ -1,7 +1,8 @@
 -- Numbers at the front of a list, then zeros up to a length, then what was there. Assumes nothing.
 use Rattle.std.proofs.Common.{◌≡◌, sym, ap, ◌∙◌, List, ◌++◌, ℕ, ◌+◌, ◌-◌, ◌≤◌, ◌<◌, arith, length, get_or, drop, replicate, length-append, length-drop, ext_get_or, get_or-append-add, get_or-drop}
-use native.Mathlib.Decide.{dec_lt}
-use lib.ListN.{length-replicate, get_or-replicate, get_or-append}
+use Rattle.std.proofs.Math.Decide.{dec_lt}
+use Rattle.std.proofs.lemmas.List.{length-replicate, get_or-replicate}
+use Rattle.std.proofs.Math.ListN.{get_or-append}
 
 get_d_past : (xs ys : List ℕ) (j : ℕ) → length xs ≤ j → get_or (xs ++ ys) j 0 ≡ get_or ys (j - length xs) 0
 get_d_past xs ys j h =

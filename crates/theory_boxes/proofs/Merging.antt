@@ -1,7 +1,8 @@
 -- The merging of the definitions: each time two close boxes are replaced, and at the end none are close. Assumes nothing.
 use Rattle.std.proofs.Common.{◌≡◌, refl, inl, inr, Bool, true, false, cond, List, [], ◌∷◌, ℕ, zero, suc, ◌≤◌, arith, length}
+use Rattle.std.proofs.lemmas.Bool.{cases_Bool}
 use mathlib.Core.List.Permᴰ
-use Rattle.mesh.proofs.Bools.{true-false, value}
+use Rattle.mesh.proofs.Bools.{true-false}
 use Rattle.theory_boxes.specs.Boxes.{Box, close, close_to, some_close, joined, merge_two, merge_all}
 use Rattle.theory_boxes.specs.Merging.{Replaced, Merges, begin, again}
 use Rattle.theory_boxes.proofs.Orders.{replaced-pair, replaced-from, replaced-behind, replaced-shorter, merges-trans}
@@ -28,7 +29,7 @@ pub all-merges : (k : ℕ) (l : List Box) → Merges l (merge_all k l)
 unfolding merge_all
 all-merges zero l = begin (Permᴰ.refl l)
 all-merges (suc k) l =
-    elim (value (some_close l)) [
+    elim (cases_Bool (some_close l)) [
       | inl e ↦ rw e (merges-trans (again (begin (Permᴰ.refl l)) (two-replaced l e)) (all-merges k (merge_two l)))
       | inr e ↦ rw e (begin (Permᴰ.refl l))
     ]
@@ -39,7 +40,7 @@ unfolding merge_all some_close
 all-far zero [] h = refl
 all-far zero (a ∷ l) h = absurd (omega arith)
 all-far (suc k) l h =
-    elim (value (some_close l)) [
+    elim (cases_Bool (some_close l)) [
       | inl e ↦ rw e (all-far k (merge_two l) (omega (arith, replaced-shorter (two-replaced l e))))
       | inr e ↦ rw e e
     ]

@@ -1,10 +1,10 @@
 -- How many numbers the boxes have, and when there is room for them. Assumes nothing.
 use Rattle.std.proofs.Common.{◌≡◌, refl, sym, ◌∙◌, ◌↔◌, inl, inr, List, [], ◌∷◌, ℕ, zero, suc, ◌*◌, ◌≤◌, ◌<◌, arith, ltb-true, ltb-false, lt-ltb, le-ltb, ltb, length, length-append}
-use lib.ListN.{length-replicate}
+use Rattle.std.proofs.lemmas.Bool.{cases_Bool}
+use Rattle.std.proofs.lemmas.List.{length-replicate}
 use Rattle.mesh.specs.Mesh.{Mesh, mesh}
 use Rattle.mesh.specs.Tests.{◌gives◌, Test, first}
 use Rattle.mesh.specs.Maps.{map_tests}
-use Rattle.mesh.proofs.Bools.{value}
 use Rattle.mesh.proofs.Tests.{numbered, numbered_to, NoneHolds, first_some, first-none, first-most, clear-before, clear_next}
 use Rattle.mesh.proofs.Maps.{Accepted, map-numbered}
 use Rattle.theory_boxes.specs.Boxes.{Box, fault_boxes, merge_all, boxes}
@@ -72,7 +72,7 @@ module _ (columns rows : ℕ) (map list : List ℕ) where
       by : (k : ℕ) → first (map_tests columns rows map) ≡ k → (first (map_tests columns rows map) ≡ 0) × (length list < room_for map)
       by zero e =
           let r : first room ≡ 10 = sym (room-decides e) ∙ h in
-          (e, elim (value (ltb (length list) (room_for map))) [ inl u ↦ ltb-true _ _ u | inr u ↦ absurd (omega (arith, rw u at r)) ])
+          (e, elim (cases_Bool (ltb (length list) (room_for map))) [ inl u ↦ ltb-true _ _ u | inr u ↦ absurd (omega (arith, rw u at r)) ])
       by (suc k) e = absurd (omega (arith, first_some k (map_tests columns rows map) room e, map-most))
 
   pub room-refused : box_refusal columns rows map list ≡ 10 ↔ ((first (map_tests columns rows map) ≡ 0) × (length list < room_for map))

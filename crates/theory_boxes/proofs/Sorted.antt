@@ -1,8 +1,8 @@
 -- The boxes that are left, sorted, are those of the blocks in the order of the list of blocks. Assumes nothing.
 use Rattle.std.proofs.Common.{◌≡◌, true, List, [], ◌∷◌, map, ℕ, zero, suc, ◌*◌, ◌/◌, ◌%◌, ◌≤◌, ◌<◌, div-add-mod', div-mul-le_self, le-div_iff_mul-le, arith, length}
+use Rattle.std.proofs.Math.Nat.{div-zero}
 use mathlib.Core.List.Memᴰ
 use mathlib.Core.List.Permᴰ
-use native.Mathlib.Nat.{div-zero}
 use Rattle.mesh.specs.Mesh.{Mesh}
 use Rattle.mesh.specs.Nodes.{bad}
 use Rattle.mesh.specs.Rounds.{marked}

@@ -1,9 +1,9 @@
 -- Sorting by lowest row, then lowest column: the same boxes, each before the later ones; and no two such lists have the same boxes. Assumes nothing.
 use Rattle.std.proofs.Common.{◌≡◌, refl, sym, ◌⊎◌, inl, inr, true, false, List, [], ◌∷◌}
+use Rattle.std.proofs.lemmas.Bool.{cases_Bool}
 use mathlib.Core.List.Memᴰ
 use mathlib.Core.List.Permᴰ
 use mathlib.Core.List.{Memᴰ}
-use Rattle.mesh.proofs.Bools.{value}
 use Rattle.theory_blocks.specs.Obstacles.{Pairs, none, more}
 use Rattle.theory_boxes.specs.Boxes.{Box, earlier, insert, sorted}
 use Rattle.theory_boxes.specs.Merging.{Reordered}
@@ -16,7 +16,7 @@ unfolding insert
 insert-reordered a [] = Permᴰ.refl _
 insert-reordered a (b ∷ l) =
     let rest = insert-reordered a l in
-    elim (value (earlier a b)) [
+    elim (cases_Bool (earlier a b)) [
       | inl e ↦ rw e (Permᴰ.refl _)
       | inr e ↦ rw e (Permᴰ.trans (Permᴰ.swap refl refl) (Permᴰ.cons refl rest))
     ]
@@ -31,7 +31,7 @@ insert-pairs : (a : Box) (l : List Box) → ((b : Box) → Memᴰ b l → Differ
 unfolding insert
 insert-pairs a [] d none = more (λ b m. absurd (Memᴰ.not-nil m)) none
 insert-pairs a (b ∷ l) d (more h p) =
-    go (insert-pairs a l (λ x i. d x (Memᴰ.tail i)) p) (value (earlier a b))
+    go (insert-pairs a l (λ x i. d x (Memᴰ.tail i)) p) (cases_Bool (earlier a b))
   where
     after : earlier a b ≡ false → (x : Box) → (x ≡ a) ⊎ Memᴰ x l → Before b x
     after e x (inl s) = rw s (later-told a b e (d b (Memᴰ.head refl)))

@@ -1,6 +1,6 @@
 -- What is shown of blocks from rectangles (document 02, E10). Each theorem is proved in the file that its proof cites. Assumes nothing.
 use Rattle.std.proofs.Common.{Result, ◌≡◌, ap, sym, ◌∙◌, ◌↔◌, true, false, List, map, ℕ, suc, ◌*◌, ◌≤◌, ◌<◌, arith, length, get_or, take}
-use lib.ListN.{length-map}
+use Rattle.std.proofs.lemmas.List.{length-map}
 use Rattle.mesh.specs.declared.Refusal.{Refusal}
 use Rattle.mesh.specs.Mesh.{Mesh, mesh}
 use Rattle.mesh.specs.Tests.{first}

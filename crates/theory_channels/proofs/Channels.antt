@@ -1,12 +1,12 @@
 -- A channel's ends, its reverse, and what may follow it. Assumes nothing.
 use Rattle.std.proofs.Common.{Some, ◌≡◌, ◌≢◌, inl, inr, Bool, true, false, ℕ, ◌<◌}
-use borrow.Author.Tests.{not-true}
+use Rattle.std.proofs.lemmas.Bool.{cases_Bool, and_parts, not-true}
 use Rattle.mesh.specs.Mesh.{Mesh, on_mesh}
 use Rattle.mesh.specs.declared.Heading.{Heading}
 use Rattle.mesh.specs.Headings.{opposite}
 use Rattle.mesh.specs.Turns.{reverses, turns_back, hop_breaks, turn_breaks, forbidden, may_turn}
 use Rattle.mesh.specs.Hops.{moved, stays}
-use Rattle.mesh.proofs.Bools.{true-false, value, and_both}
+use Rattle.mesh.proofs.Bools.{true-false}
 use Rattle.mesh.proofs.Headings.{same_self, same-heading}
 use Rattle.mesh.proofs.Hops.{on-mesh, stays_on}
 use Rattle.theory_channels.specs.Channels.{Channel, is_channel, end_row, end_column, reverse, MayFollow}
@@ -20,12 +20,12 @@ module _ (w : Mesh) (a : Channel) (e : is_channel w a ≡ true) where
   -- it starts on it,
   pub channel-starts : (a.row < w.rows) × (a.column < w.columns)
   unfolding is_channel
-  channel-starts = on-mesh w a.row a.column (and_both e).0
+  channel-starts = on-mesh w a.row a.column (and_parts _ _ e).0
 
   -- a hop along it stays there,
   pub channel-stays : stays w.columns w.rows a.way a.row a.column ≡ true
   unfolding is_channel
-  channel-stays = (and_both {a = on_mesh w a.row a.column} e).1
+  channel-stays = (and_parts (on_mesh w a.row a.column) _ e).1
 
   -- and it ends on it
   pub channel-ends : (end_row a < w.rows) × (end_column a < w.columns)
@@ -41,7 +41,7 @@ module _ (a b : Channel) where
   not-reverse : b.row ≡ end_row a → b.column ≡ end_column a → b ≢ reverse a → reverses a.way b.way ≡ false
   unfolding reverse reverses
   not-reverse r c n =
-      elim (value (reverses a.way b.way)) [ inl e ↦ absurd (n (same-channel r c (same-heading _ _ e))) | inr e ↦ e ]
+      elim (cases_Bool (reverses a.way b.way)) [ inl e ↦ absurd (n (same-channel r c (same-heading _ _ e))) | inr e ↦ e ]
 
   reverse-reverses : b ≡ reverse a → reverses a.way b.way ≡ true
   unfolding reverse reverses
@@ -77,7 +77,7 @@ pub permitted-follows : (west : ℕ → Bool) (w : Mesh) (a b : Channel) → is_
     b.row ≡ end_row a → b.column ≡ end_column a → Permitted west b.column (Some a.way) b.way → MayFollow west w a b
 unfolding may_turn turns_back hop_breaks
 permitted-follows west w a b i j row column p =
-    let (v, u) = and_both (permitted-true west b.column p) in
+    let (v, u) = and_parts _ _ (permitted-true west b.column p) in
     record {
       channel-a = i;
       channel-b = j;

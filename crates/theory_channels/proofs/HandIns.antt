@@ -1,6 +1,7 @@
 -- How many letters a passed hand_in has at most, and one that has as many. Assumes nothing.
 use Rattle.std.proofs.Common.{◌≡◌, refl, sym, ◌∙◌, true, false, List, [], ◌∷◌, ℕ, ◌-◌, ◌*◌, ◌≤◌, ◌<◌, zero-add, arith, eq-eqb, length}
-use lib.ListN.{length-replicate}
+use Rattle.std.proofs.lemmas.Bool.{and_from}
+use Rattle.std.proofs.lemmas.List.{length-replicate}
 use Rattle.mesh.specs.declared.Network.{Network}
 use Rattle.mesh.specs.declared.Place.{Place}
 use Rattle.mesh.specs.Mesh.{Mesh, mesh, place}
@@ -15,7 +16,6 @@ use Rattle.mesh.specs.Walk.{arrived, lawful_route}
 use Rattle.mesh.specs.Maps.{map_tests}
 use Rattle.mesh.specs.Requests.{off_mesh, in_block, place_tests}
 use Rattle.mesh.specs.Judging.{passed}
-use Rattle.mesh.proofs.Bools.{and_intro}
 use Rattle.mesh.proofs.Hops.{is-on-mesh}
 use Rattle.mesh.proofs.Lists.{letters-length}
 use Rattle.mesh.proofs.Maps.{size-good, accepted, map-numbered}
@@ -102,7 +102,7 @@ module _ (network : Network) (columns rows : ℕ) (wide : 1 ≤ columns) (few-co
   tour-route =
       (route-is-lawful (trip_on network (marked w) destination) (fresh source) whole.hops).1 (
         any-destination network (marked w) destination source (fresh source) whole.hops ∙ whole.are-lawful,
-        and_intro (eq-eqb end.row _ refl) (eq-eqb end.column _ refl),
+        and_from _ _ (eq-eqb end.row _ refl) (eq-eqb end.column _ refl),
       )
 
   pub longest : PassedWith network columns rows (no_faults columns rows) (most_lawful columns rows)

@@ -1,8 +1,8 @@
 -- A member of a list whose number no other member's exceeds. Assumes nothing.
 use Rattle.std.proofs.Common.{refl, List, [], ◌∷◌, ℕ, ◌≤◌, ◌<◌, arith}
+use Rattle.std.proofs.Math.Decide.{dec_lt}
 use mathlib.Core.List.Memᴰ
 use mathlib.Core.List.{Memᴰ}
-use native.Mathlib.Decide.{dec_lt}
 
 module _ {A : Type 0} (f : A → ℕ) where
   pub record Highest (xs : List A) : Type 0 where

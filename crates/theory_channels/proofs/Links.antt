@@ -1,11 +1,11 @@
 -- Channels are the links between neighbouring nodes, one each way. Assumes nothing.
 use Rattle.std.proofs.Common.{◌≡◌, refl, ◌↔◌, true, ℕ, zero, suc, ◌<◌, add-one, sub-one, arith, leb-true, le-leb, lt-ltb}
+use Rattle.std.proofs.lemmas.Bool.{and_from}
 use Rattle.mesh.specs.Mesh.{Mesh}
 use Rattle.mesh.specs.declared.Heading.{Heading}
 use Rattle.mesh.specs.declared.Heading.TheVariants.{East as E, North as N, South as S, West as W}
 use Rattle.mesh.specs.Headings.{row_after, column_after}
 use Rattle.mesh.specs.Hops.{stays}
-use Rattle.mesh.proofs.Bools.{and_intro}
 use Rattle.mesh.proofs.Hops.{on-mesh, is-on-mesh}
 use Rattle.theory_blocks.specs.Blocks.{Neighbour, north, south, east, west}
 use Rattle.theory_channels.specs.Channels.{Channel, end_row, end_column, is_channel}
@@ -87,7 +87,7 @@ module _ (w : Mesh) where
         },
     λ n.
         let (x, y) = on-mesh w _ _ n.second in
-        and_intro n.first (near-stays w.columns w.rows a.way a.row a.column x y n.near),
+        and_from _ _ n.first (near-stays w.columns w.rows a.way a.row a.column x y n.near),
   )
 
   pub neighbours-link : (r c x y : ℕ) → Neighbours w r c x y → Link w r c x y

@@ -1,9 +1,9 @@
 -- A lawful walk has no more hops than the stages of `Rank` have room for. Assumes nothing.
 use Rattle.std.proofs.Common.{◌≡◌, true, List, [], ◌∷◌, ℕ, ◌+◌, ◌-◌, ◌*◌, ◌≤◌, ◌<◌, mul-le-mul_right, arith, length}
+use Rattle.std.proofs.lemmas.Bool.{and_parts}
 use Rattle.mesh.specs.declared.Heading.{Heading}
 use Rattle.mesh.specs.Rules.{Trip}
 use Rattle.mesh.specs.Hops.{At, moved, lawful}
-use Rattle.mesh.proofs.Bools.{and_both}
 use Rattle.mesh.proofs.Hops.{lawful-stays, lawful-turns}
 use Rattle.theory_judging.specs.Claims.{lawful_hops}
 use Rattle.theory_channels.specs.Rank.{stage_of, climb_of}
@@ -34,7 +34,7 @@ module _ (t : Trip) where
   unfolding lawful_hops
   walk-fits p [] o e = omega (arith, before-low p o)
   walk-fits p (h ∷ hs) o e =
-      let (l, more) = and_both {a = lawful t p h} e in
+      let (l, more) = and_parts (lawful t p h) _ e in
       omega (arith, before-rises p h o l, walk-fits (moved h p) hs (lawful-on t p h o l) more)
 
   pub walk-short : (p : At) (hs : List Heading) → OnMesh t p → lawful_hops t p hs ≡ true → length hs ≤ most_lawful t.columns t.rows

@@ -1,5 +1,6 @@
 -- The channels of lawful hops, and of a passed hand-in's route: each may follow the one before it. Assumes nothing.
 use Rattle.std.proofs.Common.{Some, ◌≡◌, refl, sym, ◌∙◌, true, List, [], ◌∷◌, ℕ}
+use Rattle.std.proofs.lemmas.Bool.{and_parts, and_from}
 use Rattle.mesh.specs.declared.Network.{Network}
 use Rattle.mesh.specs.Mesh.{mesh}
 use Rattle.mesh.specs.declared.Heading.{Heading}
@@ -11,7 +12,6 @@ use Rattle.mesh.specs.Hops.{At, fresh, moved, lawful}
 use Rattle.mesh.specs.Maps.{map_tests}
 use Rattle.mesh.specs.Requests.{place_tests}
 use Rattle.mesh.specs.Judging.{follow, passed}
-use Rattle.mesh.proofs.Bools.{and_both, and_intro}
 use Rattle.mesh.proofs.Headings.{letter-named}
 use Rattle.mesh.proofs.Hops.{is-on-mesh, stays_on, lawful-stays, lawful-turns}
 use Rattle.mesh.proofs.Maps.{map-numbered}
@@ -47,7 +47,7 @@ module _ (t : Trip) where
     lawful-channel : (p : At) (h : Heading) → OnMesh t p → lawful t p h ≡ true → is_channel (mesh t.columns t.rows map) (channel p h) ≡ true
     unfolding is_channel
     lawful-channel p h o l =
-        and_intro (is-on-mesh (mesh t.columns t.rows map) p.row p.column o.row o.column) (lawful-stays t p h l)
+        and_from _ _ (is-on-mesh (mesh t.columns t.rows map) p.row p.column o.row o.column) (lawful-stays t p h l)
 
     -- a lawful hop after another
     lawful-follows : (p : At) (g h : Heading) → OnMesh t p → lawful t p g ≡ true → lawful t (moved g p) h ≡ true →
@@ -67,16 +67,16 @@ module _ (t : Trip) where
     hops-linked p [] o e = empty
     hops-linked p (h ∷ []) o e = rw (channels-next p h []) single
     hops-linked p (g ∷ h ∷ hs) o e =
-        let (l, more) = and_both e in
+        let (l, more) = and_parts _ _ e in
         let rest = hops-linked (moved g p) (h ∷ hs) (lawful-on p g o l) more in
         rw (channels-next p g (h ∷ hs), channels-next (moved g p) h hs)
-        (link (lawful-follows p g h o l (and_both more).0) (rw (channels-next (moved g p) h hs) at rest))
+        (link (lawful-follows p g h o l (and_parts _ _ more).0) (rw (channels-next (moved g p) h hs) at rest))
 
   -- they end on the mesh
   pub after_on : (p : At) (hs : List Heading) → OnMesh t p → lawful_hops t p hs ≡ true → OnMesh t (after hs p)
   unfolding lawful_hops after
   after_on p [] o e = o
-  after_on p (h ∷ hs) o e = let (l, more) = and_both {a = lawful t p h} e in after_on (moved h p) hs (lawful-on p h o l) more
+  after_on p (h ∷ hs) o e = let (l, more) = and_parts (lawful t p h) _ e in after_on (moved h p) hs (lawful-on p h o l) more
 
 -- Of a hand-in that judging passes on a network.
 module _ (network : Network) (columns rows : ℕ) (map : List ℕ) (h : HandIn) {n : ℕ}

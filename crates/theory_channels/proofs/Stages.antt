@@ -1,11 +1,10 @@
 -- How many hops the stages of `Rank` have room for. Assumes nothing.
 use Rattle.std.proofs.Common.{Option, Some, None, ◌≡◌, refl, ◌∙◌, inl, inr, Bool, true, false, not, cond, ◌&&◌, ◌||◌, ℕ, zero, suc, ◌+◌, ◌-◌, ◌*◌, ◌≤◌, ◌<◌, arith, le-leb, leb}
-use mathlib.Core.Bool.{or-true}
-use borrow.Author.Tests.{lt-leb}
+use Rattle.std.proofs.lemmas.Bool.{cases_Bool, lt-leb}
+use Rattle.std.proofs.Math.Bool.{or-true}
 use Rattle.mesh.specs.declared.Heading.{Heading}
 use Rattle.mesh.specs.declared.Heading.TheVariants.{East as E, North as N, South as S, West as W}
 use Rattle.mesh.specs.Rules.{Trip}
-use Rattle.mesh.proofs.Bools.{value}
 use Rattle.theory_channels.specs.Rank.{westbound, eastbound, stage, climb}
 use Rattle.theory_channels.specs.Claims.{most_lawful}
 
@@ -52,7 +51,7 @@ module _ (t : Trip) where
 
   pub line-middle : 0 < t.columns → has_line (westbound t.columns 0) ≡ true
   line-middle i =
-      elim (value (t.west 0)) [
+      elim (cases_Bool (t.west 0)) [
         | inl e ↦ line-west 0 i e
         | inr e ↦ let k : eastbound t.columns 0 ≡ westbound t.columns 0 = omega arith in rw (← k) (line-east 0 i e)
       ]
@@ -84,7 +83,7 @@ module _ (t : Trip) where
 
   line-here : (c : ℕ) → c < t.columns → has_line (stage t.west t.columns (Some N) c) ≡ true
   unfolding stage
-  line-here c i = elim (value (t.west c)) [ inl e ↦ rw e (line-west c i e) | inr e ↦ rw e (line-east c i e) ]
+  line-here c i = elim (cases_Bool (t.west c)) [ inl e ↦ rw e (line-west c i e) | inr e ↦ rw e (line-east c i e) ]
 
   -- a packet is no further along its column than its stage has room
   pub climb-fits : (l : Option Heading) {r c : ℕ} → r < t.rows → c < t.columns →
@@ -101,15 +100,15 @@ module _ (t : Trip) where
   unfolding stage
   stage-low None j = omega arith
   stage-low (Some E) j = omega arith
-  stage-low (Some N) {c} j = elim (value (t.west c)) [ inl e ↦ rw e (omega arith) | inr e ↦ rw e (omega arith) ]
-  stage-low (Some S) {c} j = elim (value (t.west c)) [ inl e ↦ rw e (omega arith) | inr e ↦ rw e (omega arith) ]
+  stage-low (Some N) {c} j = elim (cases_Bool (t.west c)) [ inl e ↦ rw e (omega arith) | inr e ↦ rw e (omega arith) ]
+  stage-low (Some S) {c} j = elim (cases_Bool (t.west c)) [ inl e ↦ rw e (omega arith) | inr e ↦ rw e (omega arith) ]
   stage-low (Some W) j = omega arith
 
   -- with room for so many hops in all: first those of column 0, then of one column more on either side
   once : (c : ℕ) → 1 ≤ c → c < t.columns → room (westbound t.columns c) + room (eastbound t.columns c) ≡ t.rows - 1
   unfolding room
   once c o i =
-      elim (value (t.west c)) [
+      elim (cases_Bool (t.west c)) [
         | inl e ↦ rw (line-west c i e, no-line-east c i o e) (omega arith)
         | inr e ↦ rw (no-line-west c i o e, line-east c i e) (omega arith)
       ]

@@ -1,15 +1,15 @@
 -- A walk as long as the stages of `Rank` have room for: on a mesh without bad nodes a tour goes west through all columns and back east, and along
 -- each one at the stage that has its line. Assumes nothing.
 use Rattle.std.proofs.Common.{Option, Some, None, ◌≡◌, refl, inl, inr, Bool, true, false, not, List, [], ◌∷◌, ℕ, zero, suc, ◌+◌, ◌-◌, ◌≤◌, ◌<◌, sub-one, arith, le-leb, lt-ltb, length}
-use mathlib.Core.Bool.{and-false}
-use native.Mathlib.Decide.{ℕ_discrete}
+use Rattle.std.proofs.lemmas.Bool.{cases_Bool}
+use Rattle.std.proofs.Math.Bool.{and-false}
+use Rattle.std.proofs.Math.Decide.{ℕ_discrete}
 use Rattle.mesh.specs.declared.Heading.{Heading}
 use Rattle.mesh.specs.declared.Heading.TheVariants.{East as E, North as N, South as S, West as W}
 use Rattle.mesh.specs.Headings.{row_after, column_after}
 use Rattle.mesh.specs.Nodes.{ahead}
 use Rattle.mesh.specs.Rules.{Trip, blocked}
 use Rattle.mesh.specs.Hops.{At, moved, stays, lawful}
-use Rattle.mesh.proofs.Bools.{value}
 use Rattle.mesh.proofs.Hops.{state}
 use Rattle.theory_judging.specs.Claims.{lawful_hops}
 use Rattle.theory_channels.specs.Rank.{westbound, eastbound}
@@ -157,14 +157,14 @@ module _ (t : Trip) (free : (r c : ℕ) → t.bad r c ≡ false) (tall : 1 < t.r
   -- back east, from a column that n others lie east of
   eastward : (n c : ℕ) → 1 ≤ c → c + n + 1 ≡ t.columns → Arrives (eastbound t.columns c) c (Some E)
   eastward zero c o e =
-      elim (value (t.west c)) [
+      elim (cases_Bool (t.west c)) [
         | inl w ↦ pass-last _ c (Some E) (omega arith) (omega arith) (no-line-east t c (omega arith) o w)
         | inr w ↦ visit-last _ c (Some E) (omega arith) (omega arith) (line-east t c (omega arith) w) (from-west w)
       ]
   eastward (suc n) c o e =
       let next : suc (eastbound t.columns c) ≡ eastbound t.columns (c + 1) = omega arith in
       let rest : Arrives (suc (eastbound t.columns c)) (c + 1) (Some E) = rw next (eastward n (c + 1) (omega arith) (omega arith)) in
-      elim (value (t.west c)) [
+      elim (cases_Bool (t.west c)) [
         | inl w ↦ pass _ c _ (Some E) E (no-line-east t c (omega arith) o w) straight (to-east c (omega arith)) rest
         | inr w ↦ visit _ c _ (Some E) E (line-east t c (omega arith) w) (from-west w) turn-east (to-east c (omega arith)) rest
       ]
@@ -182,7 +182,7 @@ module _ (t : Trip) (free : (r c : ℕ) → t.bad r c ≡ false) (tall : 1 < t.r
   westward (suc c) {l} i a =
       let next : suc (westbound t.columns (suc c)) ≡ westbound t.columns c = omega arith in
       let rest : Arrives (suc (westbound t.columns (suc c))) c (Some W) = rw next (westward c (omega arith) from-east) in
-      elim (value (t.west (suc c))) [
+      elim (cases_Bool (t.west (suc c))) [
         | inl w ↦ visit _ (suc c) c l W (line-west t (suc c) i w) (from-arrival a) (turn-west w) (to-west c) rest
         | inr w ↦ pass _ (suc c) c l W (no-line-west t (suc c) i (omega arith) w) (on-west a) (to-west c) rest
       ]

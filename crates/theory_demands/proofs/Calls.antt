@@ -1,6 +1,7 @@
 -- A whole list of calls of Move on, on a request's fresh packet. Assumes nothing.
 use Rattle.std.proofs.Common.{◌≡◌, refl, ap, sym, ◌∙◌, true, false, List, [], ◌∷◌, ◌↔◌, inl, inr, ℕ, zero, suc, ◌≤◌, ◌<◌, arith, eqb-true, eq-eqb, eqb, length, get_or, drop, drop_of_length-le, drop-cons}
-use native.Mathlib.Decide.{dec_le}
+use Rattle.std.proofs.lemmas.Bool.{cases_Bool, and_parts}
+use Rattle.std.proofs.Math.Decide.{dec_le}
 use Rattle.mesh.specs.declared.Heading.{Heading}
 use Rattle.mesh.specs.declared.Heading.TheVariants.{East as E}
 use Rattle.mesh.specs.declared.Packet.{Packet}
@@ -14,7 +15,7 @@ use Rattle.mesh.specs.Hops.{At, moved, fresh}
 use Rattle.mesh.specs.Walk.{hop_at}
 use Rattle.mesh.specs.Moving.{hopped, there, moved_told, MovesOn}
 use Rattle.mesh.proofs.Lists.{same-eq, same_refl}
-use Rattle.mesh.proofs.Bools.{true-false, value, and_both}
+use Rattle.mesh.proofs.Bools.{true-false}
 use Rattle.theory_judging.specs.Claims.{trip_to}
 use Rattle.theory_walk.specs.Claims.{reached, Hops}
 use Rattle.theory_demands.specs.Demand3.{Call, Keeps, Refused, letters_then_arrived, is_same, Calls, no-calls, same, other, same_answers, hops, record_at, Goes, no_more, letter-next, arrived-now, refused-now}
@@ -46,9 +47,9 @@ module _ (network : Network) (columns rows : ℕ) (map : List ℕ) where
   unfolding is_same
   is_same_lem c = (
     λ e.
-        let (o, d) = and_both {a = same_network c.network network} e in
-        let (p, f) = and_both {a = eqb c.columns columns} d in
-        let (q, g) = and_both {a = eqb c.rows rows} f in
+        let (o, d) = and_parts (same_network c.network network) _ e in
+        let (p, f) = and_parts (eqb c.columns columns) _ d in
+        let (q, g) = and_parts (eqb c.rows rows) _ f in
         (same-network _ _ o, eqb-true _ _ p, eqb-true _ _ q, same-eq _ _ g),
     λ e. rw (e.0, e.1, e.2, e.3, eq-eqb (network_number network) _ refl, eq-eqb columns columns refl, eq-eqb rows rows refl, same_refl map),
   )
@@ -93,7 +94,7 @@ module _ {network : Network} {columns rows : ℕ} {map : List ℕ} {s d : Place}
   -- so it is not refused
   not-refused : (k : ℕ) {p : Packet} {c : Call} → k ≤ length hs → p ≡ shown k → Keeps p c → Refused c → is_same network columns rows map c ≡ false
   not-refused k {c = c} h stands keeps ref =
-      elim (value (is_same network columns rows map c)) [
+      elim (cases_Bool (is_same network columns rows map c)) [
         | inr f ↦ f
         | inl e ↦
             elim (dec_le (suc k) (length hs)) [

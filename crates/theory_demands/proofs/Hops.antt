@@ -1,5 +1,6 @@
 -- The hops of a request that refusals 1 to 9 let pass. Assumes nothing.
 use Rattle.std.proofs.Common.{◌≡◌, List, ℕ, zero, suc, ◌≤◌, ◌<◌, arith, length}
+use Rattle.std.proofs.lemmas.Bool.{cond_both}
 use Rattle.mesh.specs.declared.Heading.{Heading}
 use Rattle.mesh.specs.declared.Network.{Network}
 use Rattle.mesh.specs.declared.Place.{Place}
@@ -12,7 +13,6 @@ use Rattle.mesh.specs.Walk.{arrived, hop_at, walk, bound}
 use Rattle.mesh.specs.Routing.{hops_of}
 use Rattle.theory_judging.specs.Claims.{trip_to}
 use Rattle.theory_walk.specs.Claims.{Arrives, reached, OnTheWay}
-use Rattle.theory_walk.proofs.Bools.{cond-by}
 use Rattle.theory_walk.proofs.Theorems.{walk-arrives, same-walk, on-the-way}
 use Rattle.theory_demands.specs.Demand3.{ByRules, rule-1, hop-on, hops}
 use Rattle.theory_demands.proofs.Requests.{Clear, course-of, served-of}
@@ -22,7 +22,7 @@ ends-by-rules : (t : Trip) (n : ℕ) (p : At) → length (walk n t p) < n → By
 unfolding walk
 ends-by-rules t zero p = λ h. absurd (omega arith)
 ends-by-rules t (suc n) p =
-    cond-by (λ hs. length hs < suc n → ByRules t p hs) (arrived t p)
+    cond_both (arrived t p) _ _ (λ hs. length hs < suc n → ByRules t p hs)
     (λ e h. rule-1 e)
     (λ e h. hop-on e (ends-by-rules t n (moved (hop_at t p) p) (omega arith)))
 

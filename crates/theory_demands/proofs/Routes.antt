@@ -1,6 +1,6 @@
 -- What Route answers and writes, by whether one of refusals 1 to 9 applies to the request. Assumes nothing.
 use Rattle.std.proofs.Common.{Result, ◌≡◌, refl, sym, ◌∙◌, cond, List, ◌++◌, append_assoc, ℕ, zero, suc, ◌≤◌, ◌<◌, arith, lt-ltb, le-ltb, ltb, length, drop}
-use native.Mathlib.Decide.{dec_le}
+use Rattle.std.proofs.Math.Decide.{dec_le}
 use Rattle.mesh.specs.declared.Refusal.{Refusal}
 use Rattle.mesh.specs.declared.Heading.{Heading}
 use Rattle.mesh.specs.declared.Network.{Network}

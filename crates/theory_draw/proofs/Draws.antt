@@ -1,10 +1,10 @@
 -- States are below 2^32, a draw picks a number of the places, and every drawn place is an allowed one. Assumes nothing.
 use Rattle.std.proofs.Common.{◌≡◌, refl, inl, inr, ◌↔◌, true, false, ◌&&◌, ◌||◌, List, [], ◌∷◌, ℕ, zero, suc, ◌*◌, ◌^◌, ◌≤◌, ◌<◌, mul_comm, mod-lt, div-lt_iff_lt-mul, arith, ltb-true, ltb-false, eqb-true, lt-ltb, eq-eqb, ltb, eqb, pow_pos, length}
-use mathlib.Core.Bool.{or-true}
-use native.Mathlib.Nat.{mul-lt-mul_of_pos_left}
-use borrow.Author.Tests.{eqb-false}
+use Rattle.std.proofs.lemmas.Bool.{and_parts, or_cases, or_parts, eqb-false}
+use Rattle.std.proofs.Math.Bool.{or-true}
+use Rattle.std.proofs.Math.Nat.{mul-lt-mul_of_pos_left}
 use Rattle.mesh.specs.declared.Place.{Place}
-use Rattle.mesh.proofs.Bools.{and_both, and_right, or_cases, or-none}
+use Rattle.mesh.proofs.Bools.{and_right}
 use Rattle.theory_draw.specs.Draws.{next_state, state_after, place_count, picked, picked_place, drawn_places}
 use Rattle.theory_draw.specs.Drawing.{bad_draws}
 use Rattle.theory_draw.specs.Claims.{Allowed, Undrawable}
@@ -33,12 +33,12 @@ pub data AllAllowed (columns rows : ℕ) : List Place → Type 0 where
 module _ (columns rows n : ℕ) (good : bad_draws columns rows n ≡ false) where
   pub few-draws : n ≤ 1000
   unfolding bad_draws
-  few-draws = ltb-false 1000 n (or-none (ltb 1000 n) _ good).0
+  few-draws = ltb-false 1000 n (or_parts (ltb 1000 n) _ good).0
 
   pub some-places : 0 < n → 0 < place_count columns rows
   unfolding bad_draws
   some-places h =
-      let none = eqb-false (place_count columns rows) 0 (and_right (ltb 0 n) _ (lt-ltb _ _ h) (or-none (ltb 1000 n) _ good).1) in
+      let none = eqb-false (place_count columns rows) 0 (and_right (ltb 0 n) _ (lt-ltb _ _ h) (or_parts (ltb 1000 n) _ good).1) in
       omega (arith, none)
 
 -- refusal 24 applies
@@ -51,7 +51,7 @@ draws-refused columns rows n = (told, holds)
         elim (or_cases (ltb 1000 n) _ e) [
           | inl many ↦ inl (ltb-true 1000 n many)
           | inr drawn ↦
-              let (some, zero-places) = and_both {a = ltb 0 n} drawn in
+              let (some, zero-places) = and_parts (ltb 0 n) _ drawn in
               inr (ltb-true 0 n some, (no_place columns rows).0 (eqb-true _ _ zero-places))
         ]
 

@@ -1,10 +1,11 @@
 -- The map with faults at allowed places: it passes refusals 3 to 5, and its number of faulty nodes is the number of distinct places. Assumes nothing.
 use Rattle.std.proofs.Common.{◌≡◌, refl, sym, ap, ◌∙◌, inl, inr, Bool, true, false, cond, List, [], ◌∷◌, ℕ, ◌+◌, ◌*◌, ◌/◌, ◌%◌, ◌≤◌, ◌<◌, zero-add, arith, eqb-true, eq-eqb, ltb, eqb, length, get_or, length-set, get_or-set_same, get_or-set_other}
-use lib.ListN.{length-replicate, get_or-replicate}
+use Rattle.std.proofs.lemmas.Bool.{cases_Bool, and_parts, and_from}
+use Rattle.std.proofs.lemmas.List.{length-replicate, get_or-replicate}
 use Rattle.mesh.specs.declared.Place.{Place}
 use Rattle.mesh.specs.Nodes.{is_bad, how_many}
 use Rattle.mesh.specs.Maps.{bad_length, bad_byte, misplaced_at, misplaced}
-use Rattle.mesh.proofs.Bools.{value, true-false, and_both, and_intro}
+use Rattle.mesh.proofs.Bools.{true-false}
 use Rattle.mesh.proofs.Index.{index-row, index-column, index-within}
 use Rattle.mesh.proofs.NoFaults.{no-faults-bytes, no-faults-placed}
 use Rattle.mesh.proofs.Some.{none-set}
@@ -67,7 +68,7 @@ module _ (columns rows : ℕ) where
   same_index : (p q : Place) → same_place p q ≡ true → index_of columns p ≡ index_of columns q
   unfolding same_place index_of
   same_index p q e =
-      let (r, c) = and_both e in
+      let (r, c) = and_parts _ _ e in
       rw (eqb-true p.row.0 q.row.0 r, eqb-true p.column.0 q.column.0 c)
 
   index_same : (p q : Place) → Allowed columns rows p → Allowed columns rows q → index_of columns p ≡ index_of columns q → same_place p q ≡ true
@@ -75,7 +76,7 @@ module _ (columns rows : ℕ) where
   index_same p q a b e =
       let row = sym (row_of p a) ∙ ap (λ (x : ℕ). x / columns) e ∙ row_of q b in
       let column = sym (column-of p a) ∙ ap (λ (x : ℕ). x % columns) e ∙ column-of q b in
-      and_intro (eq-eqb _ _ row) (eq-eqb _ _ column)
+      and_from _ _ (eq-eqb _ _ row) (eq-eqb _ _ column)
 
   -- the map tells whether an allowed place is among the faults
   pub byte_at : (p : Place) → Allowed columns rows p → (ps : List Place) → AllAllowed columns rows ps →
@@ -83,7 +84,7 @@ module _ (columns rows : ℕ) where
   unfolding fault_map is_among
   byte_at p a [] none = get_or-replicate (columns * rows) (index_of columns p) 0 0 (index_on p a)
   byte_at p a (q ∷ qs) (more b bs) =
-      elim (value (same_place p q)) [
+      elim (cases_Bool (same_place p q)) [
         | inl e ↦
             rw (e, same_index p q e)
             (get_or-set_same (fault_map columns rows qs) (index_of columns q) 1 0 (rw (faults-length qs) (index_on q b)))
@@ -110,4 +111,4 @@ unfolding distinct
 distinct-few [] = omega arith
 distinct-few (p ∷ ps) =
     let before = distinct-few ps in
-    elim (value (is_among p ps)) [ inl e ↦ rw e (omega arith) | inr e ↦ rw e (omega arith) ]
+    elim (cases_Bool (is_among p ps)) [ inl e ↦ rw e (omega arith) | inr e ↦ rw e (omega arith) ]

@@ -1,7 +1,7 @@
 -- Counted row by row: how many places of a grid pass a test of their row and one of their column. Assumes nothing.
 use Rattle.std.proofs.Common.{◌≡◌, ◌∙◌, Bool, true, false, cond, ◌&&◌, ℕ, zero, suc, ◌+◌, ◌-◌, ◌*◌, ◌/◌, ◌%◌, ◌≤◌, ◌<◌, min, add-zero, add-suc, zero-mul, arith, le-leb, lt-ltb, le-ltb, leb, ltb}
-use native.Mathlib.Decide.{dec_lt}
-use borrow.Author.Tests.{lt-leb}
+use Rattle.std.proofs.Math.Decide.{dec_lt}
+use Rattle.std.proofs.lemmas.Bool.{lt-leb}
 use Rattle.mesh.proofs.Index.{index-row, index-column}
 use Rattle.theory_draw.proofs.Counting.{count_below}
 

@@ -1,8 +1,8 @@
 -- The numbers of the allowed places, worked out: rows - 2 rows of columns - 4 places each. Assumes nothing.
 use Rattle.std.proofs.Common.{◌≡◌, sym, ◌∙◌, Bool, true, ℕ, zero, suc, ◌+◌, ◌-◌, ◌*◌, ◌/◌, ◌%◌, ◌<◌, zero-add, add-zero, mul-zero, mul_comm, mod-lt, div-lt_iff_lt-mul, div-add-mod', arith, le-leb, lt-ltb}
+use Rattle.std.proofs.lemmas.Bool.{and_from}
 use Rattle.mesh.specs.Mesh.{place}
 use Rattle.mesh.specs.Maps.{allowed}
-use Rattle.mesh.proofs.Bools.{and_intro}
 use Rattle.mesh.proofs.Index.{index-row, index-column, index-within}
 use Rattle.mesh.proofs.Maps.{Inner, allowed-true}
 use Rattle.theory_draw.specs.Draws.{allowed_at, places, place_count, place_numbered}
@@ -38,7 +38,7 @@ module _ (columns rows : ℕ) where
     pub number_of : count (r * columns + c) ≡ (r - 1) * (columns - 4) + (c - 2)
     unfolding allowed_at allowed
     number_of =
-        let passes : in_rows r ≡ true = and_intro (le-leb 1 r p.south) (lt-ltb (r + 1) rows p.north) in
+        let passes : in_rows r ≡ true = and_from _ _ (le-leb 1 r p.south) (lt-ltb (r + 1) rows p.north) in
         let below : count_below in_rows r ≡ r - 1 = count-between 1 1 rows r ∙ omega arith in
         let before : count_below in_columns c ≡ c - 2 = count-between 2 2 columns c ∙ omega arith in
         count-grid in_rows in_columns columns r c (omega arith) ∙ rw (passes, below, before, in_row)

@@ -1,6 +1,6 @@
 -- The numbering is one to one between the numbers below the number of places and the allowed places, and in map order. Assumes nothing.
 use Rattle.std.proofs.Common.{◌≡◌, sym, ap, ◌∙◌, ◌⊎◌, inl, inr, ◌↔◌, ℕ, ◌+◌, ◌-◌, ◌*◌, ◌/◌, ◌%◌, ◌≤◌, ◌<◌, zero-mul, mul-zero, mul_comm, mul-pos, div-add-mod', arith}
-use native.Mathlib.Decide.{dec_lt}
+use Rattle.std.proofs.Math.Decide.{dec_lt}
 use Rattle.mesh.specs.declared.Place.{Place}
 use Rattle.mesh.proofs.Index.{index-within}
 use Rattle.mesh.proofs.Maps.{allowed-told, allowed-true}

@@ -1,6 +1,7 @@
 -- A whole hand-in, letter by letter. Assumes nothing.
 use Rattle.std.proofs.Common.{Some, ◌≡◌, refl, sym, ◌∙◌, ◌↔◌, ◌≢◌, inl, inr, true, false, List, [], ◌∷◌, ◌++◌, ℕ, zero, suc, ◌+◌, ◌-◌, ◌≤◌, ◌<◌, add-zero, add-suc, suc-add, arith, length, take}
-use lib.Seq.{take-nil}
+use Rattle.std.proofs.lemmas.Bool.{cases_Bool, and_parts, and_from}
+use Rattle.std.proofs.Math.Seq.{take-nil}
 use Rattle.mesh.specs.declared.Heading.{Heading}
 use Rattle.mesh.specs.declared.Network.{Network}
 use Rattle.mesh.specs.declared.Place.{Place}
@@ -15,7 +16,7 @@ use Rattle.mesh.specs.Requests.{place_tests}
 use Rattle.mesh.specs.Judging.{letter_mistake, follow, Verdict, passed, failed, unless, judge, judge_from, judgement}
 use Rattle.mesh.proofs.Lists.{letters-length}
 use Rattle.mesh.proofs.Tests.{numbered_to, first-most}
-use Rattle.mesh.proofs.Bools.{true-false, value, and_both, and_intro}
+use Rattle.mesh.proofs.Bools.{true-false}
 use Rattle.mesh.proofs.Headings.{letter-named}
 use Rattle.theory_judging.specs.Claims.{LawfulHandIn, lawful_hops, after, NotLawful, no-letter, unlawful, WentWrong, at-letter, at-end, FailedAt, refusal_of, trip_to}
 use Rattle.theory_judging.proofs.Letters.{no-mistake-lawful, good, mistaken, examine}
@@ -54,26 +55,26 @@ module _ (t : Trip) where
   unfolding lawful_route lawful_hops after
   route-hops p [] e = (refl, e)
   route-hops p (h ∷ hs) e =
-      let (l, rest) = and_both {a = lawful t p h} e in
+      let (l, rest) = and_parts (lawful t p h) _ e in
       let (more, there) = route-hops (moved h p) hs rest in
-      (and_intro l more, there)
+      (and_from _ _ l more, there)
 
   pub hops-route : (p : At) (hs : List Heading) → lawful_hops t p hs ≡ true → arrived t (after hs p) ≡ true → lawful_route t p hs ≡ true
   unfolding lawful_route lawful_hops after
   hops-route p [] e there = there
-  hops-route p (h ∷ hs) e there = let (l, more) = and_both {a = lawful t p h} e in and_intro l (hops-route (moved h p) hs more there)
+  hops-route p (h ∷ hs) e there = let (l, more) = and_parts (lawful t p h) _ e in and_from _ _ l (hops-route (moved h p) hs more there)
 
   pub route-passed : (p : At) (i : ℕ) (hs : List Heading) → lawful_route t p hs ≡ true → judge t p i (letters hs) ≡ passed (i + length hs)
   unfolding lawful_route letters
   route-passed p i [] e = rw add-zero (judge-arrived p i e)
   route-passed p i (h ∷ hs) e =
-      let (l, m) = and_both e in
+      let (l, m) = and_parts _ _ e in
       judge-good p i h (letters hs) l ∙ route-passed (moved h p) (suc i) hs m ∙ rw (add-suc, suc-add)
 
   passed-route : (p : At) (i n : ℕ) (xs : List ℕ) → judge t p i xs ≡ passed n → LawfulHandIn t p xs
   unfolding lawful_route letters
   passed-route p i n [] e =
-      elim (value (arrived t p)) [
+      elim (cases_Bool (arrived t p)) [
         | inl a ↦ record { hops = []; spelled = refl; route = a }
         | inr a ↦ passed-failed (sym e ∙ judge-short p i a)
       ]
@@ -81,7 +82,7 @@ module _ (t : Trip) where
       elim (examine t p x) [
         | good h s l ↦
             let f = passed-route (moved h p) (suc i) n xs (sym (judge-good p i h xs l) ∙ (rw s at e)) in
-            record { hops = h ∷ f.hops; spelled = rw (s, f.spelled); route = and_intro l f.route }
+            record { hops = h ∷ f.hops; spelled = rw (s, f.spelled); route = and_from _ _ l f.route }
         | mistaken k s u ↦ passed-failed (sym e ∙ judge-mistaken p i k x xs s)
       ]
 
@@ -106,7 +107,7 @@ module _ (t : Trip) where
   pub failed-told : (p : At) (i : ℕ) (xs : List ℕ) {k j : ℕ} → judge t p i xs ≡ failed k j → FailedAt t p i xs k j
   unfolding letters lawful_hops after
   failed-told p i [] {k} {j} e =
-      elim (value (arrived t p)) [
+      elim (cases_Bool (arrived t p)) [
         | inl a ↦ passed-failed (sym (judge-arrived p i a) ∙ e)
         | inr a ↦
             let (number, index) = failed-number (sym (judge-short p i a) ∙ e) in
@@ -128,7 +129,7 @@ module _ (t : Trip) where
               hops = h ∷ f.hops;
               begun = omega arith;
               spelled = rw (next, s, f.spelled);
-              hops-lawful = and_intro l f.hops-lawful;
+              hops-lawful = and_from _ _ l f.hops-lawful;
               wrong = rw next (wrong-later x f.wrong);
             }
         | mistaken n s u ↦
@@ -173,7 +174,7 @@ module _ (t : Trip) where
   told-later p i (h ∷ hs) (x ∷ xs) (suc n) k e l u =
       let s : letter h ≡ x = cc in
       let rest : letters hs ≡ take n xs = cc in
-      let (m, ls) = and_both l in
+      let (m, ls) = and_parts _ _ l in
       (rw (← s) (judge-good p i h xs m)) ∙ told-later (moved h p) (suc i) hs xs n k rest ls (wrong-rest x u) ∙ rw (add-suc, suc-add)
 
   pub told-failed : (p : At) (i : ℕ) (xs : List ℕ) {k j : ℕ} → FailedAt t p i xs k j → judge t p i xs ≡ failed k j

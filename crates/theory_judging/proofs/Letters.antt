@@ -1,5 +1,6 @@
 -- A single letter of a hand-in: what is wrong with it. Assumes nothing.
 use Rattle.std.proofs.Common.{Option, Some, None, ◌≡◌, refl, ◌↔◌, ◌≢◌, inl, inr, Bool, true, false, not, cond, ◌&&◌, ℕ, suc, pred, arith}
+use Rattle.std.proofs.lemmas.Bool.{cases_Bool}
 use Rattle.mesh.specs.declared.TurnRule.{TurnRule}
 use Rattle.mesh.specs.declared.TurnRule.TheVariants.{Rule1, Rule2}
 use Rattle.mesh.specs.declared.Heading.{Heading}
@@ -9,7 +10,7 @@ use Rattle.mesh.specs.Turns.{hop_breaks, is_rule1, is_rule2, forbidden, turns_ba
 use Rattle.mesh.specs.Rules.{Trip, blocked}
 use Rattle.mesh.specs.Hops.{At, stays, lawful}
 use Rattle.mesh.specs.Judging.{hop_tests, letter_mistake}
-use Rattle.mesh.proofs.Bools.{true-false, value}
+use Rattle.mesh.proofs.Bools.{true-false}
 use Rattle.mesh.proofs.Headings.{letter-named, is-hop, is-other, name}
 use Rattle.theory_judging.specs.Claims.{NotLawful, no-letter, unlawful}
 
@@ -53,7 +54,7 @@ module _ (t : Trip) (p : At) where
       elim (name x) [
         | is-other e ↦ mistaken 10 (rw e) (no-letter e)
         | is-hop h e ↦
-            elim (value (lawful t p h)) [
+            elim (cases_Bool (lawful t p h)) [
               | inl l ↦ good h e l
               | inr l ↦
                   let n : named x ≡ Some h = rw e (letter-named h) in

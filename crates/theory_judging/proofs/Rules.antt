@@ -1,5 +1,6 @@
 -- Which rule a hop breaks, and that judging tells it. Assumes nothing.
 use Rattle.std.proofs.Common.{Option, Some, None, ◌≡◌, refl, sym, ◌∙◌, ◌↔◌, ◌≢◌, inl, inr, Bool, true, false, cond, List, ℕ, ◌<◌, arith, eqb, length, get_or}
+use Rattle.std.proofs.lemmas.Bool.{cases_Bool}
 use Rattle.mesh.specs.declared.TurnRule.{TurnRule}
 use Rattle.mesh.specs.declared.TurnRule.TheVariants.{Rule1, Rule2}
 use Rattle.mesh.specs.declared.Heading.{Heading}
@@ -12,7 +13,7 @@ use Rattle.mesh.specs.Turns.{breaks, turn_breaks, hop_breaks, reverses, turns_ba
 use Rattle.mesh.specs.Rules.{Trip, blocked}
 use Rattle.mesh.specs.Hops.{At, stays, lawful}
 use Rattle.mesh.specs.Judging.{hop_tests, letter_mistake}
-use Rattle.mesh.proofs.Bools.{true-false, value}
+use Rattle.mesh.proofs.Bools.{true-false}
 use Rattle.mesh.proofs.Headings.{letter-named, is-hop, is-other, name}
 use Rattle.theory_judging.specs.Claims.{unlawful, WentWrong, at-letter, at-end, BreaksRule, EN, NW, ES, SW, LetterBreaks, LawfulUpTo, FailedAt, BrokeRuleAt}
 use Rattle.theory_judging.proofs.Letters.{mistake, no-mistake-lawful}
@@ -54,17 +55,17 @@ module _ (west : ℕ → Bool) (c : ℕ) where
   unfolding hop_breaks turn_breaks breaks same
   turned None h = keeps refl
   turned (Some E) E = keeps refl
-  turned (Some E) N = elim (value (west c)) [ inl e ↦ broke (Some Rule1) (EN e) | inr e ↦ keeps (rw e) ]
-  turned (Some E) S = elim (value (west c)) [ inl e ↦ broke (Some Rule2) (ES e) | inr e ↦ keeps (rw e) ]
+  turned (Some E) N = elim (cases_Bool (west c)) [ inl e ↦ broke (Some Rule1) (EN e) | inr e ↦ keeps (rw e) ]
+  turned (Some E) S = elim (cases_Bool (west c)) [ inl e ↦ broke (Some Rule2) (ES e) | inr e ↦ keeps (rw e) ]
   turned (Some E) W = keeps refl
   turned (Some N) E = keeps refl
   turned (Some N) N = keeps refl
   turned (Some N) S = keeps refl
-  turned (Some N) W = elim (value (west c)) [ inl e ↦ keeps (rw e) | inr e ↦ broke (Some Rule1) (NW e) ]
+  turned (Some N) W = elim (cases_Bool (west c)) [ inl e ↦ keeps (rw e) | inr e ↦ broke (Some Rule1) (NW e) ]
   turned (Some S) E = keeps refl
   turned (Some S) N = keeps refl
   turned (Some S) S = keeps refl
-  turned (Some S) W = elim (value (west c)) [ inl e ↦ keeps (rw e) | inr e ↦ broke (Some Rule2) (SW e) ]
+  turned (Some S) W = elim (cases_Bool (west c)) [ inl e ↦ keeps (rw e) | inr e ↦ broke (Some Rule2) (SW e) ]
   turned (Some W) h = keeps refl
 
   rule-turn : {r : Option TurnRule} {l : Option Heading} {h : Heading} → 0 < told r → hop_breaks west c l h ≡ r → BreaksRule west c r l h
@@ -145,7 +146,7 @@ module _ (t : Trip) (q : At) (xs : List ℕ) (n : ℕ) (r : Option TurnRule) (so
     where
       not-lawful : (h : Heading) → letter_mistake t q (Some h) ≡ told r → lawful t q h ≡ false
       not-lawful h e =
-          elim (value (lawful t q h)) [ inl l ↦ absurd (omega (arith, some, e, (no-mistake-lawful t q h).1 l)) | inr l ↦ l ]
+          elim (cases_Bool (lawful t q h)) [ inl l ↦ absurd (omega (arith, some, e, (no-mistake-lawful t q h).1 l)) | inr l ↦ l ]
 
 -- a hand-in
 module _ (t : Trip) (p : At) (i : ℕ) (xs : List ℕ) (j : ℕ) where

@@ -1,6 +1,6 @@
 -- When a file is refused: 22 and 10 by their conditions. Assumes nothing.
 use Rattle.std.proofs.Common.{None, ◌≡◌, refl, sym, ap, ◌∙◌, ◌↔◌, true, List, [], ◌∷◌, ◌++◌, append-nil, ℕ, ◌≤◌, ◌<◌, arith, lt-ltb, length}
-use native.Mathlib.Decide.{dec_lt}
+use Rattle.std.proofs.Math.Decide.{dec_lt}
 use Rattle.mesh.specs.Tests.{first}
 use Rattle.mesh.proofs.Tests.{numbered}
 use Rattle.theory_legs.specs.Groups.{fault, found, and_then, read_number}

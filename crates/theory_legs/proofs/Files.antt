@@ -1,8 +1,8 @@
 -- Legs read back from their file are the same, and a file that is read is that of its legs. Assumes nothing.
 use Rattle.std.proofs.Common.{Option, Some, None, ◌≡◌, refl, ap, ◌∙◌, inl, inr, true, false, List, [], ◌∷◌, ◌++◌, append_assoc, append-nil, ℕ, zero, suc, ◌+◌, ◌/◌, ◌%◌, ◌≤◌, mod-lt, arith, ltb-false, le-ltb, length}
+use Rattle.std.proofs.lemmas.Bool.{cases_Bool, or_parts}
 use Rattle.mesh.specs.declared.Heading.{Heading}
 use Rattle.mesh.specs.Headings.{last_is, code}
-use Rattle.mesh.proofs.Bools.{value, or-none}
 use Rattle.mesh.proofs.Headings.{code-few, direction-of-code, code-of-direction}
 use Rattle.theory_legs.specs.Groups.{number_bytes, fault, found, and_then, read_number}
 use Rattle.theory_legs.specs.Legs.{Leg}
@@ -64,7 +64,7 @@ read-legs : (before : Option Heading) (ls : List Leg) (rest : List ℕ) → Stra
 unfolding read_legs leg_bytes Straight some_long leg_before
 read-legs before [] rest s e = refl
 read-legs before (l ∷ ls) rest s e =
-    let short = or-none _ _ e in
+    let short = or_parts _ _ e in
     let n = leg_number l in
     let same-leg = leg-of-number l s.1 in
     let small = leg-number-small l s.1 (ltb-false 16384 l.length short.0) in
@@ -90,7 +90,7 @@ legs-read (suc k) before xs {ls} {rest} bs e =
     elim (outcome (read_number xs)) [
       | faulty f u ↦ fault-found (leg-unread k before xs u) e
       | read n after u ↦
-          elim (value (last_is before (leg_of n).heading)) [
+          elim (cases_Bool (last_is before (leg_of n).heading)) [
             | inl r ↦ fault-found (leg-repeats k before xs u r) e
             | inr r ↦
                 let told = number_read xs u in
@@ -125,7 +125,7 @@ legs-bytes : (before : Option Heading) (ls : List Leg) → Straight before ls �
 unfolding leg_bytes Straight some_long Bytes
 legs-bytes before [] s e = tt
 legs-bytes before (l ∷ ls) s e =
-    let short = or-none _ _ e in
+    let short = or_parts _ _ e in
     let small = leg-number-small l s.1 (ltb-false 16384 l.length short.0) in
     bytes-append (number_bytes (leg_number l)) (leg_bytes ls) (number-bytes (leg_number l) small)
     (legs-bytes (Some l.heading) ls s.2 short.1)
@@ -133,7 +133,7 @@ legs-bytes before (l ∷ ls) s e =
 pub file-bytes : (ls : List Leg) → Straight None ls → too_long ls ≡ false → Bytes (file ls)
 unfolding file too_long
 file-bytes ls s e =
-    let fit = or-none _ _ e in
+    let fit = or_parts _ _ e in
     bytes-append (number_bytes (length ls)) (leg_bytes ls) (number-bytes (length ls) (ltb-false 65535 (length ls) fit.1))
     (legs-bytes None ls s fit.0)
 
@@ -141,7 +141,7 @@ file-bytes ls s e =
 pub read-file-rest : (ls : List Leg) (rest : List ℕ) → Straight None ls → too_long ls ≡ false → read_file (file ls ++ rest) ≡ all_read ls rest
 unfolding read_file file and_then too_long
 read-file-rest ls rest s e =
-    let fit = or-none _ _ e in
+    let fit = or_parts _ _ e in
     let count = read_number_lem (length ls) (leg_bytes ls ++ rest) (ltb-false 65535 (length ls) fit.1) in
     rw (append_assoc (number_bytes (length ls)) (leg_bytes ls) rest, count, read-legs None ls rest s fit.0)
 

@@ -1,7 +1,7 @@
 -- A number read back from its groups is the same, and a number that is read has just its groups. Assumes nothing.
 use Rattle.std.proofs.Common.{◌≡◌, refl, sym, ◌∙◌, inl, inr, List, [], ◌∷◌, ◌++◌, ℕ, zero, suc, ◌+◌, ◌*◌, ◌/◌, ◌%◌, ◌≤◌, ◌<◌, arith, lt-ltb, le-ltb, ltb, length}
-use native.Mathlib.Decide.{dec_lt}
-use Rattle.mesh.proofs.Bools.{value}
+use Rattle.std.proofs.lemmas.Bool.{cases_Bool}
+use Rattle.std.proofs.Math.Decide.{dec_lt}
 use Rattle.theory_legs.specs.Groups.{groups, number_bytes, Found, fault, found, and_then, above, read_groups, not_large, read_number}
 use Rattle.theory_legs.specs.Claims.{Bytes}
 
@@ -40,7 +40,7 @@ module _ (n : ℕ) where
   unfolding number_bytes groups
   size-three l =
       rw (le-ltb n 128 (omega arith), le-ltb (n / 128) 128 (omega arith))
-      (elim (value (ltb (n / 128 / 128) 128)) [ inl e ↦ rw e | inr e ↦ rw e ])
+      (elim (cases_Bool (ltb (n / 128 / 128) 128)) [ inl e ↦ rw e | inr e ↦ rw e ])
 
 -- a number with how many groups it has
 data Sized (n : ℕ) : Type 0 where

@@ -1,8 +1,8 @@
 -- A route is its legs: they have its hops, are straight runs, and no other straight runs have these hops. Assumes nothing.
 use Rattle.std.proofs.Common.{Option, Some, None, ◌≡◌, refl, ap, sym, ◌∙◌, inl, inr, false, List, [], ◌∷◌, ◌++◌, ℕ, zero, suc, ◌≤◌, arith, replicate}
+use Rattle.std.proofs.lemmas.Bool.{cases_Bool}
 use Rattle.mesh.specs.declared.Heading.{Heading}
 use Rattle.mesh.specs.Headings.{same, last_is}
-use Rattle.mesh.proofs.Bools.{value}
 use Rattle.mesh.proofs.Headings.{same-heading, same_self}
 use Rattle.theory_legs.specs.Legs.{Leg, leg, hop_before, legs, hops}
 use Rattle.theory_legs.specs.Claims.{Straight}
@@ -13,7 +13,7 @@ hop-before-hops : (h : Heading) (ls : List Leg) → hops (hop_before h ls) ≡ h
 unfolding hop_before hops
 hop-before-hops h [] = refl
 hop-before-hops h (l ∷ ls) =
-    elim (value (same h l.heading)) [
+    elim (cases_Bool (same h l.heading)) [
       | inl e ↦ rw (e, same-heading h l.heading e)
       | inr e ↦ rw e
     ]
@@ -29,7 +29,7 @@ hop-before-straight : (h : Heading) (ls : List Leg) → Straight None ls → Str
 unfolding hop_before Straight last_is
 hop-before-straight h [] s = (refl, omega arith, tt)
 hop-before-straight h (l ∷ ls) s =
-    elim (value (same h l.heading)) [
+    elim (cases_Bool (same h l.heading)) [
       | inl e ↦ rw e (refl, omega arith, rw (same-heading h l.heading e) s.2)
       | inr e ↦ rw e (refl, omega arith, (e, s.1, s.2))
     ]
@@ -75,7 +75,7 @@ turn-straight h g hs e = turned (legs hs) (hop-before-straight g (legs hs) (legs
     turned : (ls : List Leg) → Straight None (hop_before g ls) → Straight (Some h) (hop_before g ls)
     turned [] s = (e, s.1, s.2)
     turned (l ∷ ls) s =
-        elim (value (same g l.heading)) [
+        elim (cases_Bool (same g l.heading)) [
           | inl f ↦ let t = rw f at s in rw f (e, t.1, t.2)
           | inr f ↦ let t = rw f at s in rw f (e, t.1, t.2)
         ]

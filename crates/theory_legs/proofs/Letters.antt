@@ -1,9 +1,10 @@
 -- Letters and the hops that they name. Assumes nothing.
 use Rattle.std.proofs.Common.{Some, None, ◌≡◌, refl, sym, ◌∙◌, ◌↔◌, inl, inr, true, false, List, [], ◌∷◌, ℕ, suc, arith, get_or}
+use Rattle.std.proofs.lemmas.Bool.{cases_Bool, or_parts}
 use Rattle.mesh.specs.declared.Heading.{Heading}
 use Rattle.mesh.specs.Headings.{letters, named}
 use Rattle.mesh.specs.Maps.{some}
-use Rattle.mesh.proofs.Bools.{value, or-none, true-false}
+use Rattle.mesh.proofs.Bools.{true-false}
 use Rattle.mesh.proofs.Some.{none_passes}
 use Rattle.mesh.proofs.Headings.{letter-named, is-hop, is-other, name}
 use Rattle.theory_legs.specs.Converting.{is_other, no_letter, some_other, hop_by, hops_named}
@@ -29,7 +30,7 @@ letters-of-hops xs e = from 0 xs e
     from : (i : ℕ) (ys : List ℕ) → some no_letter i ys ≡ false → letters (hops_named ys) ≡ ys
     from i [] e = refl
     from i (y ∷ ys) e =
-        let clear = or-none (is_other (named y)) (some no_letter (suc i) ys) e in
+        let clear = or_parts (is_other (named y)) (some no_letter (suc i) ys) e in
         elim (name y) [
           | is-hop h s ↦ rw (s, letter-named h, from (suc i) ys clear.1)
           | is-other n ↦ let c : true ≡ false = rw n at clear.0 in true-false refl c
@@ -61,7 +62,7 @@ pub some-other : (xs : List ℕ) → some_other xs ≡ true ↔ SomeOther xs
 unfolding some_other is_other
 some-other xs = (
   other-told 0 xs,
-  λ o. elim (value (some_other xs)) [
+  λ o. elim (cases_Bool (some_other xs)) [
     | inl e ↦ e
     | inr e ↦
         let letter-there = none_passes no_letter 0 xs e o.index o.within in

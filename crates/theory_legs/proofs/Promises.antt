@@ -1,6 +1,6 @@
 -- What an operation that keeps its promise did where it wrote, and whenever nothing is to be refused. Assumes nothing.
 use Rattle.std.proofs.Common.{Result, Ok, Err, ◌≡◌, refl, true, List, ◌++◌, ℕ, zero, suc, pred, ◌≤◌, ◌<◌, length, take, drop, drop_at}
-use lib.Seq.{take-append_seam}
+use Rattle.std.proofs.Math.Seq.{take-append_seam}
 use Rattle.mesh.specs.Tests.{Test, first}
 use Rattle.mesh.specs.Numbers.{returned, answer, written}
 use Rattle.mesh.proofs.Tests.{numbered}

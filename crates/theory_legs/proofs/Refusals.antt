@@ -1,8 +1,9 @@
 -- When letters or a file are refused: each number by its condition. Assumes nothing.
 use Rattle.std.proofs.Common.{◌≡◌, refl, sym, ◌∙◌, ◌⊎◌, inl, inr, ◌↔◌, Bool, true, false, cond, List, [], ◌∷◌, ℕ, zero, suc, ◌≤◌, ◌<◌, arith, ltb-true, ltb-false, lt-ltb, le-ltb, ltb, length, get_or}
+use Rattle.std.proofs.lemmas.Bool.{cases_Bool, or_cases, or_parts}
 use Rattle.mesh.specs.declared.Heading.TheVariants.{East as E}
 use Rattle.mesh.specs.Tests.{Test, first}
-use Rattle.mesh.proofs.Bools.{true-false, value, or_cases, or-none}
+use Rattle.mesh.proofs.Bools.{true-false}
 use Rattle.mesh.proofs.Tests.{numbered, clear-before, clear_next}
 use Rattle.theory_legs.specs.Legs.{Leg, leg}
 use Rattle.theory_legs.specs.Converting.{refusal, some_other, some_long, too_long, letter_tests, legs_of, file_of}
@@ -27,7 +28,7 @@ module _ (tests : List Test) (new out : List ℕ) where
 
     pub room-only : refusal tests new out ≡ 10 → length out < length new
     unfolding refusal first
-    room-only e = by (value (ltb (length out) (length new))) (sym (clear_next tests _ n clear) ∙ e)
+    room-only e = by (cases_Bool (ltb (length out) (length new))) (sym (clear_next tests _ n clear) ∙ e)
       where
         by : (ltb (length out) (length new) ≡ true) ⊎ (ltb (length out) (length new) ≡ false) →
             ◌≡◌ {A = ℕ} (cond (ltb (length out) (length new)) 10 0) 10 → length out < length new
@@ -51,15 +52,15 @@ told-long : (ls : List Leg) → some_long ls ≡ false → (i : ℕ) → i < len
 unfolding some_long
 told-long [] e i w h = omega arith
 told-long (l ∷ ls) e zero w h =
-    let short = ltb-false 16384 l.length (or-none (ltb 16384 l.length) (some_long ls) e).0 in
+    let short = ltb-false 16384 l.length (or_parts (ltb 16384 l.length) (some_long ls) e).0 in
     omega arith
 told-long (l ∷ ls) e (suc i) w h =
-    told-long ls (or-none (ltb 16384 l.length) (some_long ls) e).1 i (omega arith) h
+    told-long ls (or_parts (ltb 16384 l.length) (some_long ls) e).1 i (omega arith) h
 
 some-long : (ls : List Leg) → some_long ls ≡ true ↔ SomeLong ls
 some-long ls = (
   long-told ls,
-  λ o. elim (value (some_long ls)) [
+  λ o. elim (cases_Bool (some_long ls)) [
     | inl e ↦ e
     | inr e ↦ absurd (told-long ls e o.index o.within o.long)
   ],
@@ -74,7 +75,7 @@ too_long_lem ls = (
   ],
   λ o. elim o [
     | inl h ↦ rw ((some-long ls).1 h)
-    | inr h ↦ elim (value (some_long ls)) [ inl e ↦ rw e | inr e ↦ rw (e, lt-ltb 65535 (length ls) h) ]
+    | inr h ↦ elim (cases_Bool (some_long ls)) [ inl e ↦ rw e | inr e ↦ rw (e, lt-ltb 65535 (length ls) h) ]
   ],
 )
 
@@ -136,7 +137,7 @@ module _ (xs : List ℕ) where
       λ e.
           let t = row-23 (some_other xs) (too_long (legs_of xs)) short (sym in_row ∙ e) in
           (λ o. true-false ((some-other xs).1 o) t.0, (too_long_lem (legs_of xs)).0 t.1),
-      λ h. in_row ∙ elim (value (some_other xs)) [
+      λ h. in_row ∙ elim (cases_Bool (some_other xs)) [
         | inl o ↦ absurd (h.0 ((some-other xs).0 o))
         | inr o ↦ rw (o, (too_long_lem (legs_of xs)).1 h.1)
       ],

@@ -1,7 +1,7 @@
 -- How many bytes and letters legs have. Assumes nothing.
 use Rattle.std.proofs.Common.{Option, Some, None, ◌≡◌, refl, sym, ◌∙◌, false, List, [], ◌∷◌, ℕ, ◌+◌, ◌-◌, ◌*◌, ◌≤◌, ◌<◌, arith, le-ltb, length, replicate, length-append}
-use native.Mathlib.Decide.{dec_lt}
-use lib.ListN.{length-replicate}
+use Rattle.std.proofs.Math.Decide.{dec_lt}
+use Rattle.std.proofs.lemmas.List.{length-replicate}
 use Rattle.mesh.specs.declared.Heading.{Heading}
 use Rattle.mesh.specs.Headings.{code, letters}
 use Rattle.mesh.proofs.Headings.{code-few}

@@ -1,5 +1,6 @@
 -- What is shown of a pick between the routes of both networks. Assumes nothing.
 use Rattle.std.proofs.Common.{Result, ◌≡◌, refl, ◌∙◌, ◌↔◌, ◌≢◌, inl, inr, List, [], ℕ, suc, ◌≤◌, ◌<◌, arith, length, take, drop, take_at, drop_at}
+use Rattle.std.proofs.lemmas.Bool.{cases_Bool}
 use Rattle.mesh.specs.declared.Refusal.{Refusal}
 use Rattle.mesh.specs.declared.Heading.{Heading}
 use Rattle.mesh.specs.declared.Network.{Network}
@@ -12,7 +13,6 @@ use Rattle.mesh.specs.Rounds.{marked}
 use Rattle.mesh.specs.Requests.{unserved}
 use Rattle.mesh.specs.Routing.{route_refusal, route_output}
 use Rattle.mesh.specs.Judging.{passed, judgement}
-use Rattle.mesh.proofs.Bools.{value}
 use Rattle.mesh.proofs.Lists.{letters-length}
 use Rattle.theory_walk.specs.Claims.{most_hops}
 use Rattle.theory_walk.proofs.Theorems.{one-network-serves}
@@ -126,7 +126,7 @@ module _ (columns rows : ℕ) (map : List ℕ) (s d : Place) where
     pub pick-serves : most_hops ≤ length first → most_hops ≤ length second → refusal1to8 columns rows map s d ≡ 0 →
         {k : ℕ} → picked columns rows map s d first second ≢ none (suc k)
     pick-serves one two passes e =
-        elim (value (unserved First w s d)) [
+        elim (cases_Bool (unserved First w s d)) [
           | inr f ↦ room-for-pick one two e First (nine-decides columns rows map s d First passes ∙ rw f)
           | inl f ↦ room-for-pick one two e Second (nine-decides columns rows map s d Second passes ∙ rw (one-network-serves w s d f))
         ]

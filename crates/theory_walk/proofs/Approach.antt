@@ -1,6 +1,6 @@
 -- Straight travel to the destination's row, in columns that permit NW and SW, and two columns west past each block on the way. Assumes nothing.
 use Rattle.std.proofs.Common.{Option, Some, ◌≡◌, refl, Bool, true, false, List, ℕ, zero, suc, ◌+◌, ◌-◌, ◌≤◌, arith, lt-ltb, le-leb}
-use native.Mathlib.Decide.{dec_le}
+use Rattle.std.proofs.Math.Decide.{dec_le}
 use Rattle.mesh.specs.declared.Heading.{Heading}
 use Rattle.mesh.specs.declared.Heading.TheVariants.{West as W}
 use Rattle.mesh.specs.Headings.{row_after, opposite}

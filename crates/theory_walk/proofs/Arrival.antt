@@ -1,13 +1,14 @@
 -- Each hop keeps a mode and lowers its number, so a walk arrives. Assumes nothing.
 use Rattle.std.proofs.Common.{Option, ◌≡◌, true, false, List, ℕ, zero, suc, ◌≤◌, ◌<◌, arith, eq-eqb, length}
+use Rattle.std.proofs.lemmas.Bool.{and_from, cond_both}
 use Rattle.mesh.specs.declared.Heading.{Heading}
 use Rattle.mesh.specs.Blocks.{Block}
 use Rattle.mesh.specs.Rules.{Trip, at_destination, hop}
 use Rattle.mesh.specs.Hops.{At, moved}
 use Rattle.mesh.specs.Walk.{arrived, lawful_route, hop_at, walk}
-use Rattle.mesh.proofs.Bools.{true-false, and_intro}
+use Rattle.mesh.proofs.Bools.{true-false}
 use Rattle.theory_walk.specs.Course.{Course}
-use Rattle.theory_walk.proofs.Bools.{cond-by, le-by-contradiction}
+use Rattle.theory_walk.proofs.Bools.{le-by-contradiction}
 use Rattle.theory_walk.proofs.Coordinates.{to-here}
 use Rattle.theory_walk.proofs.Modes.{Mode, approaching, approaching-on, shifting, in_row, leaving, passing, returning, Next, never-zero}
 use Rattle.theory_walk.proofs.Round.{returning-step, passing_step, leaving-step}
@@ -34,9 +35,9 @@ module _ {t : Trip} {bs : List Block} (course : Course t bs) where
   mode-arrives zero m p h i = absurd (never-zero i)
   mode-arrives (suc n) zero p h i = absurd (omega arith)
   mode-arrives (suc n) (suc m) p h i =
-      cond-by (λ hs. (lawful_route t p hs ≡ true) × (length hs < suc n)) (arrived t p)
+      cond_both (arrived t p) _ _ (λ hs. (lawful_route t p hs ≡ true) × (length hs < suc n))
       (λ e. (e, omega arith))
       (λ e.
       let g = step (not_there t p e) i in
       let next = mode-arrives n m (moved (hop_at t p) p) (omega arith) g.then in
-      (and_intro g.lawfully next.0, omega arith))
+      (and_from _ _ g.lawfully next.0, omega arith))

@@ -1,6 +1,6 @@
 -- Bools as numbers, and proofs by cases of a test. Assumes nothing.
-use Rattle.std.proofs.Common.{◌≡◌, refl, Bool, true, false, not, cond, ℕ, ◌+◌, ◌≤◌, arith}
-use native.Mathlib.Decide.{dec_le}
+use Rattle.std.proofs.Common.{◌≡◌, refl, Bool, true, false, not, ℕ, ◌+◌, ◌≤◌, arith}
+use Rattle.std.proofs.Math.Decide.{dec_le}
 
 abbrev pub bit : Bool → ℕ
 bit true = 1
@@ -21,10 +21,6 @@ bit-zero false e = absurd (omega arith)
 pub bit-one : (b : Bool) → bit (not b) ≡ 1 → b ≡ false
 bit-one true e = absurd (omega arith)
 bit-one false e = refl
-
-pub cond-by : {A : Type 0} (P : A → Type 0) (b : Bool) {x y : A} → (b ≡ true → P x) → (b ≡ false → P y) → P (cond b x y)
-cond-by P true f g = f refl
-cond-by P false f g = g refl
 
 pub le-by-contradiction : {a b : ℕ} → ((a ≤ b → ⊥) → ⊥) → a ≤ b
 le-by-contradiction {a} {b} f = decided (dec_le a b)

@@ -1,6 +1,6 @@
 -- Places by the rows and columns that are to go, so that north and south, east and west are one argument. Assumes nothing.
 use Rattle.std.proofs.Common.{◌≡◌, refl, not, List, ℕ, suc, ◌+◌, ◌-◌, ◌≤◌, ◌<◌, arith}
-use native.Mathlib.Decide.{dec_lt}
+use Rattle.std.proofs.Math.Decide.{dec_lt}
 use Rattle.mesh.specs.declared.Heading.{Heading}
 use Rattle.mesh.specs.declared.Heading.TheVariants.{East as E, North as N, South as S, West as W}
 use Rattle.mesh.specs.Headings.{row_after, column_after, opposite}

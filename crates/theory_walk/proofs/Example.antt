@@ -1,6 +1,6 @@
 -- The premises can be met: one block anywhere on a mesh with room for its ring, and a walk past it with the turns of either parity. Assumes nothing.
 use Rattle.std.proofs.Common.{◌≡◌, refl, sym, subst, Bool, not, [], ◌∷◌, ℕ, ◌+◌, ◌<◌, arith}
-use mathlib.Core.Bool.{and-false}
+use Rattle.std.proofs.Math.Bool.{and-false}
 use mathlib.Core.List.Memᴰ
 use Rattle.mesh.specs.Nodes.{ahead}
 use Rattle.mesh.specs.Blocks.{Block, reaches}

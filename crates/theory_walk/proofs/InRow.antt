@@ -1,6 +1,6 @@
 -- Straight travel in the destination's row, until a block stops the packet. Assumes nothing.
 use Rattle.std.proofs.Common.{Option, Some, ◌≡◌, true, false, List, ℕ, suc, ◌+◌, ◌-◌, ◌≤◌, ◌<◌, max, arith}
-use native.Mathlib.Decide.{dec_le}
+use Rattle.std.proofs.Math.Decide.{dec_le}
 use Rattle.mesh.specs.declared.Heading.{Heading}
 use Rattle.mesh.specs.Headings.{column_after}
 use Rattle.mesh.specs.Blocks.{Block}

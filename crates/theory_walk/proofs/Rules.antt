@@ -1,12 +1,12 @@
 -- The hop rules by what is to go: for each rule, what holds of either hop holds of the hop by the rules. Assumes nothing.
 use Rattle.std.proofs.Common.{Option, Some, None, ◌≡◌, refl, ◌∙◌, sym, Bool, true, false, not, cond, ◌&&◌, ◌||◌, ℕ, zero, suc, ◌+◌, ◌-◌, ◌≤◌, arith, lt-ltb, le-ltb, le-leb, leb-true, eq-eqb, ne_eqb, leb}
+use Rattle.std.proofs.lemmas.Bool.{and_parts, cond_both}
 use Rattle.mesh.specs.declared.Heading.{Heading}
 use Rattle.mesh.specs.declared.Heading.TheVariants.{East as E, North as N, South as S, West as W}
 use Rattle.mesh.specs.Headings.{row_after, opposite}
 use Rattle.mesh.specs.Nodes.{ahead}
 use Rattle.mesh.specs.Rules.{Trip, blocked, side, toward, own, stopped, again, in_row, leaving, across, nearing, other_row, hop}
-use Rattle.mesh.proofs.Bools.{and_both}
-use Rattle.theory_walk.proofs.Bools.{bit, cond-by}
+use Rattle.theory_walk.proofs.Bools.{bit}
 use Rattle.theory_walk.proofs.Coordinates.{Level, to-east, to-west, Sight, right, left, Off, north, south, To, east, west, not_own, not_own-le, level, off-other}
 
 -- the tests of the rules, with what each outcome tells
@@ -56,7 +56,7 @@ module _ {t : Trip} where
   unfolding blocked ahead
   stop-at r c i to-east h k e = record { i = i; j = c + i; one = h; two = k; sight = right refl; bad = e }
   stop-at r c i to-west h k e =
-      let b = and_both {a = leb i c} e in
+      let b = and_parts (leb i c) _ e in
       let f = leb-true i c b.0 in
       record { i = i; j = c - i; one = h; two = k; sight = left (omega arith); bad = b.1 }
 
@@ -136,4 +136,4 @@ module _ {t : Trip} where
   pub by-nearing : (P : Heading → Type 0) {a : Heading} {r k : ℕ} (c : ℕ) → Off t r (suc k) a →
       (t.bad (row_after (opposite a) r) c ≡ true → P W) → (t.bad (row_after (opposite a) r) c ≡ false → P (opposite a)) → P (hop t r c (Some (opposite a)))
   unfolding nearing
-  by-nearing P {a} {r} c o f g = rw (nearing-is c o, next-in c o) (cond-by P (t.bad (row_after (opposite a) r) c) f g)
+  by-nearing P {a} {r} c o f g = rw (nearing-is c o, next-in c o) (cond_both (t.bad (row_after (opposite a) r) c) _ _ P f g)

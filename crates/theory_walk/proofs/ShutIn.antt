@@ -1,7 +1,7 @@
 -- From a source that is shut in, or meets the west edge, some hop by the rules is unlawful. Assumes nothing.
 use Rattle.std.proofs.Common.{Option, Some, None, ◌≡◌, true, false, not, ◌⊎◌, inl, inr, List, ℕ, zero, suc, ◌+◌, ◌-◌, ◌≤◌, ◌<◌, arith, ne_eqb, ltb-true, eqb, leb, ltb}
-use mathlib.Core.Bool.{and-false}
-use borrow.Author.Tests.{eqb-false, not-true}
+use Rattle.std.proofs.lemmas.Bool.{and_parts, eqb-false, not-true}
+use Rattle.std.proofs.Math.Bool.{and-false}
 use Rattle.mesh.specs.declared.Heading.{Heading}
 use Rattle.mesh.specs.declared.Heading.TheVariants.{North as N, West as W}
 use Rattle.mesh.specs.Headings.{row_after, column_after}
@@ -11,7 +11,7 @@ use Rattle.mesh.specs.Rules.{Trip, blocked, own, again, at_destination}
 use Rattle.mesh.specs.Hops.{fresh, moved, stays, lawful}
 use Rattle.mesh.specs.Walk.{arrived, hop_at}
 use Rattle.mesh.specs.Mesh.{place}
-use Rattle.mesh.proofs.Bools.{true-false, and_both}
+use Rattle.mesh.proofs.Bools.{true-false}
 use Rattle.mesh.proofs.Hops.{state}
 use Rattle.theory_walk.specs.Course.{Course}
 use Rattle.theory_walk.specs.Claims.{Fails}
@@ -79,7 +79,7 @@ module _ {t : Trip} {bs : List Block} (course : Course t bs) where
   row-fails {r} {c} free barred wall e h =
       let to : To t c (c - t.C) W = west (omega arith) in
       let a = west-forbidden t r c barred in
-      let b = (and_both {a = leb 1 c} wall).1 in
+      let b = (and_parts (leb 1 c) _ wall).1 in
       let g = course.obstacles.in-block r (c - 1) b in
       let v : Sight c 1 (c - 1) W = left (omega arith) in
       let m = met_by course g.listed e g.within to (omega arith) free (omega arith) v in

@@ -1,7 +1,7 @@
 -- A served source is in a mode, with a number within the bound. Assumes nothing.
 use Rattle.std.proofs.Common.{None, ◌≡◌, refl, Bool, true, false, not, ◌||◌, List, ℕ, suc, ◌+◌, ◌-◌, ◌≤◌, ◌<◌, arith, eq-eqb, ne_eqb, lt-ltb, le-ltb, le-leb, eqb, ltb, leb}
-use mathlib.Core.Bool.{and-true, or-true}
-use native.Mathlib.Decide.{dec_lt, ℕ_discrete}
+use Rattle.std.proofs.Math.Bool.{and-true, or-true}
+use Rattle.std.proofs.Math.Decide.{dec_lt, ℕ_discrete}
 use Rattle.mesh.specs.declared.Heading.{Heading}
 use Rattle.mesh.specs.declared.Heading.TheVariants.{East as E, North as N, West as W}
 use Rattle.mesh.specs.Nodes.{ahead}

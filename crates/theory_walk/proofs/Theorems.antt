@@ -1,9 +1,9 @@
 -- The walk theorem and what goes with it: the walk by the hop rules arrives, lawfully and within the bound, unless the source is shut in or meets
 -- the edge. It is shown for columns of two kinds that alternate, whichever of them permits which turns; each network is an instance. Assumes nothing.
 use Rattle.std.proofs.Common.{◌≡◌, refl, ◌∙◌, true, false, not, ◌||◌, ◌↔◌, ◌⊎◌, inl, inr, List, ℕ, zero, suc, ◌≤◌, ◌<◌, arith, eqb-true, ne_eqb, eqb, length}
-use mathlib.Core.Bool.{and-false, or-false}
-use native.Mathlib.Decide.{ℕ_discrete}
-use borrow.Author.Tests.{eqb-false, not-true}
+use Rattle.std.proofs.lemmas.Bool.{cases_Bool, and_parts, or_cases, or_parts, eqb-false, not-true}
+use Rattle.std.proofs.Math.Bool.{and-false, or-false}
+use Rattle.std.proofs.Math.Decide.{ℕ_discrete}
 use Rattle.mesh.specs.declared.Heading.TheVariants.{West as W}
 use Rattle.mesh.specs.declared.Network.{Network}
 use Rattle.mesh.specs.declared.Network.TheVariants.{First, Second}
@@ -17,7 +17,7 @@ use Rattle.mesh.specs.Hops.{fresh}
 use Rattle.mesh.specs.Walk.{walk, shut_in, meets_edge, bound}
 use Rattle.mesh.specs.Requests.{in_block, block_near_in_row, unserved}
 use Rattle.mesh.specs.Routing.{hops_of}
-use Rattle.mesh.proofs.Bools.{true-false, value, and_both, or_cases, or-none}
+use Rattle.mesh.proofs.Bools.{true-false}
 use Rattle.mesh.proofs.Requests.{on_row, on-column, Placed, Request}
 use Rattle.mesh.proofs.Maps.{Accepted}
 use Rattle.mesh.proofs.Parity as parity
@@ -37,8 +37,8 @@ use Rattle.theory_walk.proofs.Longest.{bound-few}
 pub meets-edge-fails : (t : Trip) (r c : ℕ) → meets_edge t r c ≡ true → Fails t (fresh (place r c))
 unfolding meets_edge
 meets-edge-fails t r c e =
-    let f = and_both {a = not (t.west c)} e in
-    let g = and_both {a = eqb c 0} f.1 in
+    let f = and_parts (not (t.west c)) _ e in
+    let g = and_parts (eqb c 0) _ f.1 in
     west-fails t r c (eqb-false r t.R (not-true _ g.1)) (not-true _ f.0) (edge-barred t r c (eqb-true c 0 g.0))
 
 module _ {t : Trip} {bs : List Block} (course : Course t bs) (r c : ℕ) where
@@ -64,13 +64,13 @@ module _ {t : Trip} {bs : List Block} (course : Course t bs) (r c : ℕ) where
   pub shut-in-fails : t.bad r c ≡ false → shut_in t r c ≡ true → Fails t (fresh (place r c))
   unfolding shut_in
   shut-in-fails free e =
-      let f = and_both {a = not (t.west c)} e in
-      let g = and_both {a = blocked t W 1 r c} f.1 in
+      let f = and_parts (not (t.west c)) _ e in
+      let g = and_parts (blocked t W 1 r c) _ f.1 in
       shut_by course (ℕ_discrete r t.R) free (not-true _ f.0) g.0 (or_cases _ _ g.1)
 
   -- refusal 9 comes to one condition: some hop by the rules is unlawful exactly if the source is shut in or meets the edge
   pub refusal-9 : FreePlace t r c → (shut_in t r c || meets_edge t r c ≡ true) ↔ Fails t (fresh (place r c))
-  refusal-9 free = (λ e. fails (or_cases (shut_in t r c) _ e), λ f. known f (value (shut_in t r c || meets_edge t r c)))
+  refusal-9 free = (λ e. fails (or_cases (shut_in t r c) _ e), λ f. known f (cases_Bool (shut_in t r c || meets_edge t r c)))
     where
       fails : (shut_in t r c ≡ true) ⊎ (meets_edge t r c ≡ true) → Fails t (fresh (place r c))
       fails (inl e) = shut-in-fails free.free e
@@ -80,7 +80,7 @@ module _ {t : Trip} {bs : List Block} (course : Course t bs) (r c : ℕ) where
           shut_in t r c || meets_edge t r c ≡ true
       known f (inl e) = e
       known f (inr e) =
-          let (free-west, off) = or-none (shut_in t r c) (meets_edge t r c) e in
+          let (free-west, off) = or_parts (shut_in t r c) (meets_edge t r c) e in
           let src : Served t r c = record { place = free; not-shut = free-west; off-edge = off } in
           absurd (fails-unlawful t (suc (bound t bs r c)) f (walk-arrives src _ (omega arith)).route)
 
@@ -103,13 +103,13 @@ unserved-column : (n : Network) (w : Mesh) (s d : Place) → unserved n w s d �
 unfolding unserved shut_in meets_edge
 unserved-column n w s d e =
     elim (or_cases (shut_in (trip_on n w d) s.row.0 s.column.0) _ e) [
-      | inl f ↦ not-true _ (and_both {a = not (turns_west n s.column.0)} f).0
-      | inr f ↦ not-true _ (and_both {a = not (turns_west n s.column.0)} f).0
+      | inl f ↦ not-true _ (and_parts (not (turns_west n s.column.0)) _ f).0
+      | inr f ↦ not-true _ (and_parts (not (turns_west n s.column.0)) _ f).0
     ]
 
 pub one-network-serves : (w : Mesh) (s d : Place) → unserved First w s d ≡ true → unserved Second w s d ≡ false
 one-network-serves w s d e =
-    elim (value (unserved Second w s d)) [
+    elim (cases_Bool (unserved Second w s d)) [
       | inr f ↦ f
       | inl f ↦
           let permits : turns_west Second s.column.0 ≡ true = parity.networks-exchanged s.column.0 ∙ rw (unserved-column First w s d e) in
@@ -135,7 +135,7 @@ module _ (n : Network) (w : Mesh) (s d : Place) where
   unfolding in_block unserved
   source-served q =
       let p = q.placed in
-      let (free-west, off) = or-none (shut_in (trip_on n w d) s.row.0 s.column.0) _ q.served in
+      let (free-west, off) = or_parts (shut_in (trip_on n w d) s.row.0 s.column.0) _ q.served in
       record {
         place = record { row = on_row w s p.source-on; column = on-column w s p.source-on; free = p.source_free };
         not-shut = free-west;

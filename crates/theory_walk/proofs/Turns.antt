@@ -1,6 +1,6 @@
 -- Permitted turns, of a side and an upright heading. Assumes nothing.
 use Rattle.std.proofs.Common.{Option, Some, None, ◌≡◌, refl, true, false, ℕ}
-use borrow.Author.Tests.{not-true}
+use Rattle.std.proofs.lemmas.Bool.{not-true}
 use Rattle.mesh.specs.declared.Heading.{Heading}
 use Rattle.mesh.specs.declared.Heading.TheVariants.{East as E, North as N, South as S, West as W}
 use Rattle.mesh.specs.Headings.{opposite, same}

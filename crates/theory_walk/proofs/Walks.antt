@@ -1,5 +1,6 @@
 -- Walks by the hop rules on any trip: when two agree, when one fails, and the places on the way of one that arrives. Assumes nothing.
 use Rattle.std.proofs.Common.{◌≡◌, refl, Bool, true, false, cond, List, [], ◌∷◌, ◌⊎◌, inl, inr, ℕ, zero, suc, ◌≤◌, ◌<◌, arith, leb, length}
+use Rattle.std.proofs.lemmas.Bool.{cases_Bool, and_parts, cond_both}
 use Rattle.mesh.specs.declared.Heading.{Heading}
 use Rattle.mesh.specs.declared.Heading.TheVariants.{East as E, North as N, South as S, West as W}
 use Rattle.mesh.specs.Headings.{row_after, column_after}
@@ -7,11 +8,10 @@ use Rattle.mesh.specs.Nodes.{ahead}
 use Rattle.mesh.specs.Rules.{Trip, blocked}
 use Rattle.mesh.specs.Hops.{At, moved, stays, lawful}
 use Rattle.mesh.specs.Walk.{arrived, lawful_route, hop_at, walk}
-use Rattle.mesh.proofs.Bools.{true-false, value, and_both, and_right}
+use Rattle.mesh.proofs.Bools.{true-false, and_right}
 use Rattle.mesh.proofs.Hops.{stays_on, lawful-stays, lawful-enters}
 use Rattle.theory_walk.specs.Course.{FreePlace}
 use Rattle.theory_walk.specs.Claims.{Fails, now, later, reached, OnTheWay}
-use Rattle.theory_walk.proofs.Bools.{cond-by}
 
 agree-by : (b : Bool) (h : Heading) {xs ys : List Heading} (n m : ℕ) → (length xs < n → length ys < m → xs ≡ ys) →
     length (cond b [] (h ∷ xs)) < suc n → length (cond b [] (h ∷ ys)) < suc m → cond b [] (h ∷ xs) ≡ cond b [] (h ∷ ys)
@@ -25,7 +25,7 @@ module _ (t : Trip) where
 
   pub fails_by : {p : At} → arrived t p ≡ false → FailsBy p (hop_at t p) → Fails t p
   fails_by e (inl f) = now e f
-  fails_by {p} e (inr g) = known (value (lawful t p (hop_at t p)))
+  fails_by {p} e (inr g) = known (cases_Bool (lawful t p (hop_at t p)))
     where
       known : (lawful t p (hop_at t p) ≡ true) ⊎ (lawful t p (hop_at t p) ≡ false) → Fails t p
       known (inl t) = later e t g
@@ -43,8 +43,8 @@ module _ (t : Trip) where
   unfolding walk lawful_route
   fails-unlawful zero (now e f) l = true-false l e
   fails-unlawful zero (later e f k) l = true-false l e
-  fails-unlawful (suc m) {p} (now e f) l = true-false (and_both {a = lawful t p (hop_at t p)} (rw e at l)).0 f
-  fails-unlawful (suc m) {p} (later e f k) l = fails-unlawful m k (and_both {a = lawful t p (hop_at t p)} (rw e at l)).1
+  fails-unlawful (suc m) {p} (now e f) l = true-false (and_parts (lawful t p (hop_at t p)) _ (rw e at l)).0 f
+  fails-unlawful (suc m) {p} (later e f k) l = fails-unlawful m k (and_parts (lawful t p (hop_at t p)) _ (rw e at l)).1
 
   enters-free : (p : At) (h : Heading) → stays t.columns t.rows h p.row p.column ≡ true → blocked t h 1 p.row p.column ≡ false →
       t.bad (row_after h p.row) (column_after h p.column) ≡ false
@@ -81,8 +81,8 @@ module _ (t : Trip) where
   unfolding walk lawful_route
   on-the-way-from zero k p f = at-end k p f
   on-the-way-from (suc m) k p f =
-      cond-by (λ hs. lawful_route t p hs ≡ true → k ≤ length hs → OnTheWay t hs k (reached k t p)) (arrived t p)
+      cond_both (arrived t p) _ _ (λ hs. lawful_route t p hs ≡ true → k ≤ length hs → OnTheWay t hs k (reached k t p))
       (λ e l h. at-end k p f l h)
       (λ e l h.
-      let both = and_both {a = lawful t p (hop_at t p)} l in
+      let both = and_parts (lawful t p (hop_at t p)) _ l in
       here_or_on k p _ f e both.0 (λ j. on-the-way-from m j (moved (hop_at t p) p) (lawful-free p (hop_at t p) both.0 f) both.1) h)

@@ -1,6 +1,6 @@
 -- What each block adds to the number that falls with every hop. Assumes nothing.
 use Rattle.std.proofs.Common.{◌≡◌, refl, Bool, true, false, cond, ◌&&◌, List, ℕ, suc, ◌+◌, ◌-◌, ◌*◌, ◌≤◌, ◌<◌, min, arith, lt-ltb, le-leb, le-ltb, ltb-true, leb-true, leb, ltb}
-use borrow.Author.Tests.{lt-leb}
+use Rattle.std.proofs.lemmas.Bool.{lt-leb}
 use Rattle.mesh.specs.declared.Heading.{Heading}
 use Rattle.mesh.specs.declared.Heading.TheVariants.{North as N, South as S}
 use Rattle.mesh.specs.Headings.{row_after, opposite}
