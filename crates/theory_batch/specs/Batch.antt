@@ -10,8 +10,8 @@ use Rattle.mesh.specs.Rounds.{marked}
 use Rattle.mesh.specs.Maps.{map_tests}
 use Rattle.mesh.specs.Routing.{hops_of, route_refusal}
 use Rattle.theory_batch.specs.declared.BatchRefusal.{BatchRefusal}
-use Rattle.theory_batch.specs.declared.Send.{Send}
 use Rattle.theory_batch.specs.declared.BatchRefusal.TheVariants.{Map, NotSends}
+use Rattle.theory_batch.specs.declared.Send.{Send}
 use Rattle.theory_batch.specs.Sends.{sends_of, uneven}
 
 -- A single call of Route

@@ -21,7 +21,7 @@ room_for map = 4 * how_many 1 map
 unfoldable pub box_list : Mesh → List ℕ
 box_list w = numbers (boxes w) ++ replicate (room_for w.map - length (numbers (boxes w))) 0
 
--- the enum's cases as answers
+-- what it answers, in the paper's terms
 abbrev pub boxed_answer : Result ℕ Refusal → Answer
 boxed_answer (Ok n) = returned n
 boxed_answer (Err r) = refused (number r)

@@ -23,7 +23,7 @@ leg_refusal_number SameDirection = 21
 leg_refusal_number LeftOver = 22
 leg_refusal_number TooLong = 23
 
--- the enum's cases as answers
+-- what it answers, in the paper's terms
 abbrev pub converted_answer : Result ℕ LegRefusal → Answer
 converted_answer (Ok n) = returned n
 converted_answer (Err r) = refused (leg_refusal_number r)

@@ -1,4 +1,4 @@
--- Bools as numbers, and proofs by cases of a test. Assumes nothing.
+-- Bools as numbers, and a proof by contradiction. Assumes nothing.
 use Rattle.std.proofs.Common.{◌≡◌, refl, Bool, true, false, not, ℕ, ◌+◌, ◌≤◌, arith}
 use Rattle.std.proofs.Math.Decide.{dec_le}
 

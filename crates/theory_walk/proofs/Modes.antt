@@ -1,11 +1,10 @@
 -- The modes of a walk, each with the number that falls. Assumes nothing.
-use Rattle.std.proofs.Common.{Option, Some, ◌≡◌, true, false, List, ℕ, suc, ◌+◌, ◌-◌, ◌*◌, ◌≤◌, ◌<◌, arith}
+use Rattle.std.proofs.Common.{Option, Some, ◌≡◌, true, false, List, ℕ, suc, ◌+◌, ◌-◌, ◌*◌, ◌≤◌, ◌<◌, arith, sum_by}
 use Rattle.mesh.specs.declared.Heading.{Heading}
 use Rattle.mesh.specs.declared.Heading.TheVariants.{West as W}
 use Rattle.mesh.specs.Headings.{opposite}
 use Rattle.mesh.specs.Blocks.{Block}
 use Rattle.mesh.specs.Rules.{Trip}
-use Rattle.theory_walk.proofs.Sums.{sum}
 use Rattle.theory_walk.proofs.Coordinates.{Sight, Off, To, not_own}
 use Rattle.theory_walk.proofs.Crossing.{reach, far, near, far_column, Crosses}
 use Rattle.theory_walk.proofs.Rules.{Across}
@@ -21,7 +20,7 @@ module _ (t : Trip) (bs : List Block) where
     pub turn : not_own t W c ≡ 0
     pub gap-east : t.C ≤ c + g
     pub gap-west : c ≤ t.C + g
-    pub falls : g + k + sum (detour t a r c) bs < n
+    pub falls : g + k + sum_by (detour t a r c) bs < n
 
   -- one hop east of such a column; the numbers are those of the place after that hop
   pub record Shifting (a : Heading) (k g r c n : ℕ) : Type 0 where
@@ -31,7 +30,7 @@ module _ (t : Trip) (bs : List Block) where
     pub one : 1 ≤ c
     pub gap-east : t.C + 1 ≤ c + g
     pub gap-west : c ≤ t.C + g + 1
-    pub falls : g + suc k + sum (detour t a r (c - 1)) bs + 1 < n
+    pub falls : g + suc k + sum_by (detour t a r (c - 1)) bs + 1 < n
 
   -- straight travel in the destination's row, x columns to the s
   pub record InRow (s : Heading) (x r c n : ℕ) (l : Option Heading) : Type 0 where
@@ -40,7 +39,7 @@ module _ (t : Trip) (bs : List Block) where
     pub free : t.bad r c ≡ false
     pub turn : Permits t c l s
     pub stop : (j : ℕ) → Sight c 1 j s → t.bad r j ≡ true → Ready t c l s
-    pub falls : x + sum (rest t s c) bs < n
+    pub falls : x + sum_by (rest t s c) bs < n
 
   -- away from that row, beside the block b
   pub record Leaving (b : Block) (a : Heading) (k : ℕ) (s : Heading) (x r c n : ℕ) : Type 0 where
@@ -51,7 +50,7 @@ module _ (t : Trip) (bs : List Block) where
     pub from : near t s b + 1 ≤ x
     pub till : x + not_own t s c ≤ near t s b + 2
     pub turn : Permits t c (Some a) s
-    pub falls : x + 2 * reach t a b + 2 + sum (rest t s (far_column s b)) bs < n + suc k
+    pub falls : x + 2 * reach t a b + 2 + sum_by (rest t s (far_column s b)) bs < n + suc k
 
   -- over or under it
   pub record Passing (b : Block) (a s : Heading) (x r c n : ℕ) : Type 0 where
@@ -60,7 +59,7 @@ module _ (t : Trip) (bs : List Block) where
     pub to : To t c x s
     pub from : far t s b + not_own t s c ≤ x + 2
     pub till : x ≤ near t s b + not_own t s c
-    pub falls : x + suc (reach t a b) + sum (rest t s (far_column s b)) bs < n
+    pub falls : x + suc (reach t a b) + sum_by (rest t s (far_column s b)) bs < n
 
   -- back to the row, beyond it; k = 0 once there
   pub record Returning (b : Block) (a : Heading) (k : ℕ) (s : Heading) (x r c n : ℕ) : Type 0 where
@@ -71,7 +70,7 @@ module _ (t : Trip) (bs : List Block) where
     pub turn : not_own t s c ≡ 0
     pub from : far t s b ≤ x + 2
     pub till : x + 1 ≤ far t s b
-    pub falls : x + k + sum (rest t s (far_column s b)) bs < n
+    pub falls : x + k + sum_by (rest t s (far_column s b)) bs < n
 
   -- the packet's mode, by its last hop
   pub data Mode (n r c : ℕ) : Option Heading → Type 0 where

@@ -1,6 +1,7 @@
 -- What each block adds to the number that falls with every hop. Assumes nothing.
-use Rattle.std.proofs.Common.{◌≡◌, refl, Bool, true, false, cond, ◌&&◌, List, ℕ, suc, ◌+◌, ◌-◌, ◌*◌, ◌≤◌, ◌<◌, min, arith, lt-ltb, le-leb, le-ltb, ltb-true, leb-true, leb, ltb}
+use Rattle.std.proofs.Common.{◌≡◌, refl, Bool, true, false, cond, ◌&&◌, List, ℕ, suc, ◌+◌, ◌-◌, ◌*◌, ◌≤◌, ◌<◌, min, arith, lt-ltb, le-leb, le-ltb, ltb-true, leb-true, leb, ltb, sum_by}
 use Rattle.std.proofs.lemmas.Bool.{lt-leb}
+use Rattle.std.proofs.lemmas.List.Sums.{sum_by-le-sum_by}
 use Rattle.mesh.specs.declared.Heading.{Heading}
 use Rattle.mesh.specs.declared.Heading.TheVariants.{North as N, South as S}
 use Rattle.mesh.specs.Headings.{row_after, opposite}
@@ -9,7 +10,7 @@ use Rattle.mesh.specs.Rules.{Trip}
 use Rattle.mesh.specs.Walk.{detours}
 use Rattle.mesh.proofs.Bools.{true-false}
 use Rattle.theory_blocks.specs.Obstacles.{Listed}
-use Rattle.theory_walk.proofs.Sums.{sum, sum-le, sum_less, detours-sum}
+use Rattle.theory_walk.proofs.Sums.{sum_less, detours-sum}
 use Rattle.theory_walk.proofs.Coordinates.{pick, Off, north, south, To, east, west, level}
 use Rattle.theory_walk.proofs.Crossing.{reach, far, near, far_column, Crosses, far-to, far-near}
 
@@ -66,8 +67,8 @@ module _ {t : Trip} where
   unfolding rest
   rest_le t t' h b = if-le _ _ _ _ (λ p. (coming-le t t' h b p, omega arith))
 
-  pub rest-on : {s : Heading} {c c' x x' : ℕ} (bs : List Block) → To t c x s → To t c' x' s → x' ≤ x → sum (rest t s c') bs ≤ sum (rest t s c) bs
-  rest-on bs t t' h = sum-le _ _ (rest_le t t' h) bs
+  pub rest-on : {s : Heading} {c c' x x' : ℕ} (bs : List Block) → To t c x s → To t c' x' s → x' ≤ x → sum_by (rest t s c') bs ≤ sum_by (rest t s c) bs
+  rest-on bs t t' h = sum_by-le-sum_by _ _ bs (rest_le t t' h)
 
   before-in : {a : Heading} {r k : ℕ} → Off t r (suc k) a → (b : Block) → before a (row_after (opposite a) r) b ≡ true → before a r b ≡ true
   unfolding before row_after opposite
@@ -75,27 +76,27 @@ module _ {t : Trip} where
   before-in {r = r} (south e) b t = let p = ltb-true (r + 1) b.row t in lt-ltb r b.row (omega arith)
 
   pub detour-in : {a : Heading} {r k : ℕ} (c : ℕ) (bs : List Block) → Off t r (suc k) a →
-      sum (detour t a (row_after (opposite a) r) c) bs ≤ sum (detour t a r c) bs
+      sum_by (detour t a (row_after (opposite a) r) c) bs ≤ sum_by (detour t a r c) bs
   detour-in {a} {r} c bs o =
-      sum-le _ _ (λ b. detour-le t a r (row_after (opposite a) r) c c b (before-in o b) (omega arith)) bs
+      sum_by-le-sum_by _ _ bs (λ b. detour-le t a r (row_after (opposite a) r) c c b (before-in o b) (omega arith))
 
 module _ (t : Trip) where
-  pub rest-detour : (s a : Heading) (r c c' : ℕ) (bs : List Block) → sum (rest t s c') bs ≤ sum (detour t a r c) bs
+  pub rest-detour : (s a : Heading) (r c c' : ℕ) (bs : List Block) → sum_by (rest t s c') bs ≤ sum_by (detour t a r c) bs
   unfolding rest detour
-  rest-detour s a r c c' bs = sum-le _ _ (λ b. let h = if-at-most (coming s c' b) (crossing t b) (crossing t b) (omega arith) in omega arith) bs
+  rest-detour s a r c c' bs = sum_by-le-sum_by _ _ bs (λ b. let h = if-at-most (coming s c' b) (crossing t b) (crossing t b) (omega arith) in omega arith)
 
   -- two columns west, over or under b
   pub detour-two : (a : Heading) (r c : ℕ) {b : Block} (bs : List Block) → Listed b bs → before a r b ≡ true → b.column ≤ c →
       c < b.width + b.column → 2 ≤ c →
-      sum (detour t a r (c - 2)) bs + 4 ≤ sum (detour t a r c) bs
+      sum_by (detour t a r (c - 2)) bs + 4 ≤ sum_by (detour t a r c) bs
   unfolding detour
   detour-two a r c {b} bs m e h k two =
       sum_less _ _ 4 (λ b. detour-le t a r r c (c - 2) b (λ p. p) (omega arith)) b (rw e (unfold passing in omega arith)) bs m
 
   -- the bound of demand 3 has room for all detours
-  pub detour-all : (a : Heading) (r c : ℕ) (bs : List Block) → sum (detour t a r c) bs ≤ detours bs
+  pub detour-all : (a : Heading) (r c : ℕ) (bs : List Block) → sum_by (detour t a r c) bs ≤ detours bs
   unfolding detour crossing passing
-  detour-all a r c bs = rw (detours-sum bs) (sum-le _ _ each bs)
+  detour-all a r c bs = rw (detours-sum bs) (sum_by-le-sum_by _ _ bs each)
     where
       each : (b : Block) → detour t a r c b ≤ 2 * (b.width + b.height + 1)
       each b =
@@ -119,5 +120,5 @@ module _ {t : Trip} {bs : List Block} {s : Heading} {b : Block} {c x : ℕ} (q :
   rest-met = let m = met-once q to h in rw (m.0, m.1, crossing-at q) (omega arith)
 
   -- the block that stops the packet leaves the sum
-  pub rest-cut : sum (rest t s (far_column s b)) bs + 2 * suc (reach t N b + reach t S b) ≤ sum (rest t s c) bs
+  pub rest-cut : sum_by (rest t s (far_column s b)) bs + 2 * suc (reach t N b + reach t S b) ≤ sum_by (rest t s c) bs
   rest-cut = let f = far-near (level to) q in sum_less _ _ _ (rest_le to (far-to (level to) q) (omega arith)) b rest-met bs q.listed
