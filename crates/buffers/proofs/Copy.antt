@@ -1,47 +1,18 @@
--- Bytes copied into a buffer one by one. Assumes nothing.
-use mathlib.Core.Path.{◌≡◌, refl, sym, ◌∙◌}
-use mathlib.Core.List.{List, [], ◌∷◌}
-use Prim.Native.Nat.{ℕ, ◌+◌, ◌<◌, ◌≤◌}
-use native.Mathlib.Nat.{add-zero}
-use native.Mathlib.Numerals.{add-one}
-use native.Mathlib.Omega.{arith}
-use lib.ListN.{length, drop, set, get_or, length-set, drop_of_length-le}
-use lib.Seq.{drop-cons}
+-- Bytes copied into a buffer. Assumes nothing.
+use Rattle.std.proofs.Common.{◌≡◌, ℕ, ◌+◌, ◌<◌, ◌≤◌, List, [], ◌∷◌, length, refl, arith}
+use Rattle.std.proofs.lemmas.List.{drop-drop}
+use borrow.Rule.Slice.PartMut.{put_mid}
+use lib.ListN.{set}
 use Rattle.buffers.specs.Over.{over, Puts}
+use Rattle.buffers.proofs.Over.{over-from}
 
 pub puts-byte : (out : List ℕ) (at byte : ℕ) → at < length out → Puts out at (byte ∷ []) (at + 1) (set out at byte)
 unfolding over
 puts-byte out at byte h = record { next = refl; stands = refl; fits = omega arith }
 
--- of n bytes those before index i are copied: with the others the buffer is as it will be
-pub record Putting (out : List ℕ) (at : ℕ) (from : List ℕ) (n i : ℕ) (now : List ℕ) : Type 0 where
-  pub within : i ≤ n
-  pub all : n ≡ length from
-  pub size : length now ≡ length out
-  pub leads : over now (at + i) (drop i from) ≡ over out at from
+-- what a write to a part of a buffer leaves
+pub part-over : (xs : List ℕ) (i k : ℕ) (ys : List ℕ) → k ≡ length ys → i + k ≤ length xs → put_mid i k xs ys ≡ over xs i ys
+part-over xs i k ys e h = rw (over-from xs i ys (omega arith), drop-drop k i xs, e)
 
-module _ {out : List ℕ} {at : ℕ} {from : List ℕ} where
-  pub putting-none : Putting out at from (length from) 0 out
-  putting-none = record { within = omega arith; all = refl; size = refl; leads = rw add-zero }
-
-  module _ {n i : ℕ} {now : List ℕ} (p : Putting out at from n i now) where
-    pub putting-more : {y : ℕ} → i < n → y ≡ get_or from i 0 → Putting out at from n (i + 1) (set now (at + i) y)
-    unfolding over
-    putting-more {y} h e =
-        let next : at + i + 1 ≡ at + (i + 1) = omega arith in
-        let inside : i < length from = omega (arith, p.all) in
-        record {
-          within = omega arith;
-          all = p.all;
-          size = length-set now (at + i) y ∙ p.size;
-          leads = rw (← next, add-one i, e) (rw (drop-cons from i 0 inside) at p.leads);
-        }
-
-    pub putting-all : n ≤ i → at + length from ≤ length out → Puts out at from (at + n) now
-    unfolding over
-    putting-all e h =
-        record {
-          next = omega (arith, p.all);
-          stands = sym (sym p.leads ∙ rw (drop_of_length-le from {i = i} (omega (arith, p.all))));
-          fits = omega (arith, p.all);
-        }
+pub puts-part : (out : List ℕ) (at k : ℕ) {from ys : List ℕ} → ys ≡ from → k ≡ length from → at + k ≤ length out → Puts out at from (at + length from) (put_mid at k out ys)
+puts-part out at k {from} q e h = record { next = refl; stands = rw q (part-over out at k from e h); fits = omega arith }
