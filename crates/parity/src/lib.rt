@@ -11,12 +11,13 @@ pub fn remainder(network: Network, c: Column) -> u32
     ensures { result ≡ remainder network c.0 }
 {
     match network {
-        Network::First => return c.0 % 2,
-        Network::Second => return 1 - c.0 % 2,
+        Network::First => c.0 % 2,
+        Network::Second => 1 - c.0 % 2,
     }
 }
 
 // Whether NW and SW are permitted in this column, and EN and ES are not.
+#[tactic(auto, unfolding(mesh::specs::Parity::turns_west))]
 pub fn turns_west(network: Network, c: Column) -> bool
     ensures { result ≡ turns_west network c.0 }
 {

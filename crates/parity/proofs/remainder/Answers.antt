@@ -1,8 +1,0 @@
--- Each network has its case in the definition. Assumes nothing.
-use Rattle.parity.proofs.remainder.Goals as goal
-
-pub returns-in-First : goal.returns-in-First
-returns-in-First c = rw c.in-First.is
-
-pub returns-in-Second : goal.returns-in-Second
-returns-in-Second c = rw c.in-Second.is
