@@ -7,7 +7,7 @@ ghost use Rattle.mesh.specs.Turns.{turn_breaks, hop_breaks, reverses, turns_back
 ghost use Rattle.turns.specs.Arithmetic.{rule_of, broken_rule, quarter_turns};
 
 use headings::code;
-use mesh::{Broken, Column, Heading, Last, Network};
+use mesh::{Column, Heading, Network, TurnRule};
 use parity::remainder;
 
 // Quarter turns to the left from the hop before to the hop after, by their codes (0 E, 1 N, 2 W, 3 S): 0 straight on, 1 left, 2 back, 3 right.
@@ -35,24 +35,26 @@ fn broken_rule(before: u32, after: u32, remainder: u32) -> u32
 }
 
 // The rule of that number; 0 is neither.
-fn rule_of(n: u32) -> Broken
+#[tactic(auto, unfolding(crate::specs::Arithmetic::rule_of))]
+fn rule_of(n: u32) -> Option<TurnRule>
     ensures { result ≡ rule_of n }
 {
-    if n == 0 {
-        return Broken::Neither;
+    match n {
+        0 => None,
+        1 => Some(TurnRule::Rule1),
+        _ => Some(TurnRule::Rule2),
     }
-    if n == 1 {
-        return Broken::Rule1;
-    }
-    Broken::Rule2
 }
 
 // The rule that the turn breaks in this column.
-fn turn_breaks(network: Network, before: Heading, after: Heading, c: Column) -> Broken
+fn turn_breaks(network: Network, before: Heading, after: Heading, c: Column) -> Option<TurnRule>
     ensures { result ≡ turn_breaks (turns_west network) c.0 before after }
 {
-    let rule = broken_rule(code(before), code(after), remainder(network, c));
-    rule_of(rule)
+    rule_of(broken_rule(
+        code(before),
+        code(after),
+        remainder(network, c),
+    ))
 }
 
 // Whether the second hop goes back where the first came from.
@@ -63,21 +65,17 @@ fn reverses(before: Heading, after: Heading) -> bool
 }
 
 // Whether the hop reverses the last one.
-pub fn turns_back(l: Last, h: Heading) -> bool
+#[tactic(auto, unfolding(mesh::specs::Turns::turns_back))]
+pub fn turns_back(l: Option<Heading>, h: Heading) -> bool
     ensures { result ≡ turns_back l h }
 {
-    match l {
-        Last::None => return false,
-        Last::Made(g) => return reverses(g, h),
-    }
+    l.is_some_and(|g| reverses(g, h))
 }
 
 // The rule that the hop breaks after the last one.
-pub fn hop_breaks(network: Network, l: Last, h: Heading, c: Column) -> Broken
+#[tactic(auto, unfolding(mesh::specs::Turns::hop_breaks))]
+pub fn hop_breaks(network: Network, l: Option<Heading>, h: Heading, c: Column) -> Option<TurnRule>
     ensures { result ≡ hop_breaks (turns_west network) c.0 l h }
 {
-    match l {
-        Last::None => return Broken::Neither,
-        Last::Made(g) => return turn_breaks(network, g, h, c),
-    }
+    turn_breaks(network, l?, h, c)
 }
