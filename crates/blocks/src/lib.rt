@@ -1,69 +1,69 @@
 // The blocks of a marking: their number, and whether one is near.
 #![tactic(auto)]
 
-ghost use Rattle.std.specs.Prelude.{◌≡◌, false, ◌||◌, ◌<◌, ◌*◌, ◌/◌, ◌%◌, length};
-ghost use Rattle.mesh.specs.declared.Heading.TheVariants.{East, West};
-ghost use Rattle.mesh.specs.Mesh.{mesh};
-ghost use Rattle.mesh.specs.Nodes.{bad, ahead};
+ghost use Rattle.std.specs.Prelude.{◌≡◌, ◌<◌, ◌*◌, ◌/◌, ◌%◌, length};
+ghost use Rattle.mesh.specs.Nodes.{bad};
 ghost use Rattle.mesh.specs.Blocks.{corner, blocks};
-ghost use Rattle.mesh.specs.Requests.{off_mesh, block_near_in_row};
-ghost use Rattle.nodes.specs.Sized.{Sized, OnMesh};
-ghost use Rattle.blocks.specs.Marking.{Marking};
+ghost use Rattle.mesh.specs.Requests.{block_near_in_row};
+ghost use Rattle.nodes.specs.Sized.{OnMesh};
 
 use mesh::{Column, Heading, Place, Row};
-use nodes::is_bad_ahead;
+use nodes::Nodes;
+use std::marker::Model;
+
+// A marking: nodes of which the bad ones lie in blocks. In a clause it is a `Mesh`.
+#[derive(Drop)]
+pub struct Marks<'a> {
+    pub nodes: Nodes<'a>,
+}
+
+impl<'a> Model for Marks<'a> {
+    ghost use Rattle.mesh.specs.Mesh.{Mesh};
+    ghost use Rattle.blocks.specs.Marking.{Marking};
+
+    ghost Value = { Mesh };
+
+    ghost view = { λ m. m.nodes };
+
+    ghost invariant = { λ m. Marking m.nodes };
+}
 
 // Whether a block has its south-west corner at index i.
-fn is_corner(columns: u32, rows: u32, marks: &[u8], i: u32) -> bool
-    requires { Sized columns rows marks.now × (i < columns * rows) }
-    ensures { result ≡ corner (bad (mesh columns rows marks.now)) (i / columns) (i % columns) }
+fn is_corner(nodes: &Nodes, i: u32) -> bool
+    requires { i < nodes.now.columns * nodes.now.rows }
+    ensures { result ≡ corner (bad nodes.now) (i / nodes.now.columns) (i % nodes.now.columns) }
 {
-    if marks[i as usize] == 0 {
+    if nodes.map[i as usize] == 0 {
         return false;
     }
-    let r = Row(i / columns);
-    let c = Column(i % columns);
-    if is_bad_ahead(columns, rows, marks, r, c, Heading::West, 1) {
-        return false;
-    }
-    !is_bad_ahead(columns, rows, marks, r, c, Heading::South, 1)
+    let p = Place {
+        row: Row(i / nodes.columns),
+        column: Column(i % nodes.columns),
+    };
+    !nodes.is_bad_ahead(p, Heading::West, 1) && !nodes.is_bad_ahead(p, Heading::South, 1)
 }
 
 // The number of blocks: each has one such corner.
-pub fn count_blocks(columns: u32, rows: u32, marks: &[u8]) -> u32
-    requires { Sized columns rows marks.now }
-    ensures { result ≡ length (blocks (mesh columns rows marks.now)) }
+pub fn count_blocks(nodes: &Nodes) -> u32
+    ensures { result ≡ length (blocks nodes.now) }
 {
-    let n = columns * rows;
-    let mut k: u32 = 0;
-    let mut i: u32 = 0;
-    while i < n {
-        if is_corner(columns, rows, marks, i) {
+    let mut k = 0;
+    for i in 0..nodes.columns * nodes.rows {
+        if is_corner(nodes, i) {
             k += 1;
         }
-        i += 1;
     }
     k
 }
 
-// Whether a node k columns to the east or west is bad.
-fn is_bad_beside(columns: u32, rows: u32, marks: &[u8], r: Row, c: Column, k: u32) -> bool
-    requires { OnMesh columns rows marks.now r.0 c.0 × (k < 64) }
-    ensures { result ≡ ahead (bad (mesh columns rows marks.now)) East k r.0 c.0 || ahead (bad (mesh columns rows marks.now)) West k r.0 c.0 }
-{
-    if is_bad_ahead(columns, rows, marks, r, c, Heading::East, k) {
-        return true;
+impl<'a> Marks<'a> {
+    // Refusal 8 for one place: some block has a node in its row, one or two columns away. A look at four nodes.
+    #[tactic(auto, using(crate::proofs::Near::near_first, crate::proofs::Near::near_second))]
+    pub fn is_block_near_in_row(&self, p: Place) -> bool
+        requires { OnMesh self.now p }
+        ensures { result ≡ block_near_in_row self.now p }
+    {
+        let nodes = &self.nodes;
+        nodes.is_bad_beside(p, 1) || nodes.is_bad_beside(p, 2)
     }
-    is_bad_ahead(columns, rows, marks, r, c, Heading::West, k)
-}
-
-// Refusal 8 for one place: some block has a node in its row, one or two columns away. A look at four nodes.
-pub fn is_block_near_in_row(columns: u32, rows: u32, marks: &[u8], p: Place) -> bool
-    requires { Marking columns rows marks.now × (off_mesh (mesh columns rows marks.now) p ≡ false) }
-    ensures { result ≡ block_near_in_row (mesh columns rows marks.now) p }
-{
-    if is_bad_beside(columns, rows, marks, p.row, p.column, 1) {
-        return true;
-    }
-    is_bad_beside(columns, rows, marks, p.row, p.column, 2)
 }
