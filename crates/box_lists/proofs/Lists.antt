@@ -1,7 +1,7 @@
 -- Boxes in a list: what a store of one changes. Assumes nothing.
 use mathlib.Core.Path.{◌≡◌, refl, ◌∙◌}
 use mathlib.Core.List.{List}
-use Prim.Native.Nat.{ℕ, ◌+◌, ◌-◌, ◌*◌, ◌/◌, ◌≤◌, ◌<◌}
+use Prim.Native.Nat.{ℕ, ◌+◌, ◌*◌, ◌/◌, ◌≤◌, ◌<◌}
 use native.Mathlib.Omega.{arith}
 use lib.ListN.{length, get_or, set, length-set}
 use lib.Seq.{get_or-set_same, get_or-set_other}
@@ -87,9 +87,6 @@ kept-later h p = record { size = p.size; kept = λ j l. p.kept j (omega arith) }
 -- room for one of n boxes
 pub room_at : (xs : List ℕ) (n i : ℕ) → Room xs n → i < n → Room xs (i + 1)
 room_at xs n i r h = record { room = omega arith }
-
-pub room-before : {xs : List ℕ} {n i : ℕ} → Room xs n → 0 < i → i ≤ n → Room xs (i - 1 + 1)
-room-before r p q = record { room = omega arith }
 
 pub room-kept : {xs ys : List ℕ} {i n : ℕ} → Kept xs i ys → Room xs n → Room ys n
 room-kept k r = record { room = rw k.size r.room }

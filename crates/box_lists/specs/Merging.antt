@@ -1,9 +1,7 @@
 -- Boxes of a list that are far from each other, and one more that is merged with them. Assumes nothing.
-use Rattle.std.specs.Prelude.{◌≡◌, true, false, List, ◌∷◌, ℕ, suc, ◌+◌, ◌*◌, ◌≤◌, ◌<◌}
+use Rattle.std.specs.Prelude.{◌≡◌, true, false, Option, Some, None, List, ◌∷◌, ℕ, suc, ◌+◌, ◌*◌, ◌≤◌, ◌<◌}
 use Rattle.theory_boxes.specs.Boxes.{Box, close}
 use Rattle.theory_boxes.specs.Merging.{Merges}
-use Rattle.box_lists.specs.declared.Found.{Found}
-use Rattle.box_lists.specs.declared.Found.TheVariants.{At, Nowhere}
 use Rattle.box_lists.specs.Lists.{box_at, boxes_from, Kept}
 
 -- of n boxes no two are close, none ends north of a later one, and each has a row
@@ -22,9 +20,9 @@ pub record Ends (xs : List ℕ) (n : ℕ) (a : Box) : Type 0 where
   pub tall : a.low-row ≤ a.high-row
 
 -- a box that is close to a stands there; or none of n is close
-pub record Finds (xs : List ℕ) (n : ℕ) (a : Box) (found : Found) : Type 0 where
-  pub hit : (j : ℕ) → found ≡ At j → (j < n) × (close a (box_at xs j) ≡ true)
-  pub none : found ≡ Nowhere → (j : ℕ) → j < n → close a (box_at xs j) ≡ false
+pub record Finds (xs : List ℕ) (n : ℕ) (a : Box) (found : Option ℕ) : Type 0 where
+  pub hit : (j : ℕ) → found ≡ Some j → (j < n) × (close a (box_at xs j) ≡ true)
+  pub none : found ≡ None → (j : ℕ) → j < n → close a (box_at xs j) ≡ false
 
 -- box j of n is taken out, and beyond the n nothing changed
 pub record Removes (xs : List ℕ) (j n : ℕ) (ys : List ℕ) : Type 0 where
