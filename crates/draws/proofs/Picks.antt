@@ -1,20 +1,16 @@
 -- The state and the place as the code works them out. Assumes nothing.
-use Rattle.std.proofs.Common.{◌≡◌, ℕ, ◌+◌, ◌-◌, ◌*◌, ◌/◌, ◌%◌, ◌^◌, ◌<◌, ◌≤◌, sym, ◌∙◌, mul-le-mul, div-le_self, arith, shr_lt}
+use Rattle.std.proofs.Common.{◌≡◌, ℕ, ◌+◌, ◌-◌, ◌*◌, ◌/◌, ◌%◌, ◌^◌, ◌<◌, ◌≤◌, sym, mul-le-mul, div-le_self, arith}
 use native.Mathlib.Nat.{mod-add-mod, mod-le}
 use Rattle.mesh.specs.Mesh.{place}
 use Rattle.theory_draw.specs.Draws.{next_state, place_count, picked, picked_place}
 use Rattle.theory_draw.proofs.Theorems.{place-count, place-of-number}
 use Rattle.theory_draw.proofs.Numbers.{some-place}
 use Rattle.theory_draw.proofs.Draws.{picked-below}
-use Rattle.draws.proofs.Product.{product-fits}
 
 -- the product wrapped first, then the sum
-pub next-wraps : (state : ℕ) {x y : ℕ} → x ≡ (1664525 * state) % 2 ^ 32 → y ≡ (x + 1013904223) % 2 ^ 32 → y ≡ next_state state
+pub next-wraps : (state : ℕ) → (1664525 * state % 2 ^ 32 + 1013904223) % 2 ^ 32 ≡ next_state state
 unfolding next_state
-next-wraps state {x} {y} p q = q ∙ rw p (mod-add-mod (1664525 * state) (2 ^ 32) 1013904223)
-
-pub picked_fits : {n state : ℕ} → n < 2 ^ 32 → state < 2 ^ 32 → state * n / 2 ^ 32 < 2 ^ 32
-picked_fits h s = shr_lt 32 32 (product-fits 32 s h)
+next-wraps state = mod-add-mod (1664525 * state) (2 ^ 32) 1013904223
 
 -- a mesh that has allowed places
 module _ (columns rows : ℕ) (wide : 5 ≤ columns) (high : 3 ≤ rows) where

@@ -1,30 +1,23 @@
 // Draws by number (document 02, E8): the next state, and the place that it picks.
 #![tactic(auto)]
 
-ghost use Rattle.std.specs.Prelude.{◌≡◌, ◌*◌, ◌%◌, ◌^◌, ◌≤◌};
+ghost use Rattle.std.specs.Prelude.{◌≡◌, ◌≤◌};
 ghost use Rattle.theory_draw.specs.Draws.{next_state, picked, picked_place};
 
 use mesh::{Column, Place, Row};
-
-// a times b, wrapping at 32 bits.
-fn wrapping_mul(a: u32, b: u32) -> u32
-    ensures { result ≡ (a * b) % 2 ^ 32 }
-{
-    ((a as u64) * (b as u64) % 4294967296) as u32
-}
 
 // A draw's new state.
 pub fn next_state(state: u32) -> u32
     ensures { result ≡ next_state state }
 {
-    std::num::wrapping_add_u32(wrapping_mul(1664525, state), 1013904223)
+    1664525u32.wrapping_mul(state).wrapping_add(1013904223)
 }
 
 // The number that a state picks of n.
 fn pick(n: u32, state: u32) -> u32
     ensures { result ≡ picked n state }
 {
-    ((state as u64) * (n as u64) / 4294967296) as u32
+    (u64::from(state) * u64::from(n) / 4294967296) as u32
 }
 
 // The allowed place that a state picks: there are rows - 2 rows of columns - 4 places.

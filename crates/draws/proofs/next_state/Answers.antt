@@ -3,4 +3,4 @@ use Rattle.draws.proofs.Picks.{next-wraps}
 use Rattle.draws.proofs.next_state.Goals as goal
 
 pub returns : goal.returns
-returns c = next-wraps _ c.wrapping_mul.ensures c.wrapping_add_u32.ensures.value
+returns c = next-wraps c.args.state
