@@ -1,21 +1,11 @@
 -- Equal bytes one after another. Assumes nothing.
-use Rattle.std.specs.Prelude.{◌≡◌, ◌≢◌, Bool, true, List, ◌++◌, ℕ, ◌-◌, ◌≤◌, ◌<◌, length, get_or, drop, replicate}
+use Rattle.std.specs.Prelude.{◌≡◌, ◌≢◌, List, ◌++◌, ℕ, ◌-◌, ◌≤◌, ◌<◌, length, get_or, drop, replicate}
 
 -- from index i to before index j all bytes are x
 pub record Same (xs : List ℕ) (i j x : ℕ) : Type 0 where
   pub begun : i ≤ j
   pub within : j ≤ length xs
   pub same : drop i xs ≡ replicate (j - i) x ++ drop j xs
-
--- where b is true, all bytes from index i to before index j are x
-pub record Tells (b : Bool) (xs : List ℕ) (i j x : ℕ) : Type 0 where
-  pub tells : b ≡ true → Same xs i j x
-
--- of the bytes from index i to before index end, those before index j are x, and the next is another
-pub record Skips (xs : List ℕ) (i end x j : ℕ) : Type 0 where
-  pub skipped : Same xs i j x
-  pub before-end : j ≤ end
-  pub ends : j < end → get_or xs j 0 ≢ x
 
 -- a run of equal bytes from index i to before index j: the next is another, or there is none
 pub record Run (xs : List ℕ) (i j : ℕ) : Type 0 where

@@ -1,31 +1,23 @@
 // Where a run of equal bytes ends.
 #![tactic(auto)]
 
-ghost use Rattle.std.specs.Prelude.{◌≡◌, ◌&&◌, ◌≤◌, ◌<◌, ◌+◌, min, length};
-ghost use Rattle.runs.specs.Equal.{Same, Tells, Skips, Run};
+ghost use Rattle.std.specs.Prelude.{◌≡◌, ◌==◌, true, ◌&&◌, ◌≤◌, ◌<◌, fold, length};
+ghost use Rattle.std.specs.List.{prefix_len};
+ghost use Rattle.runs.specs.Equal.{Same, Run};
 
-// Both.
-fn both(a: bool, b: bool) -> bool
-    ensures { result ≡ (a && b) }
+// The bytes are all x. No test ends the fold, so that many are compared at once.
+fn are_all(xs: &[u8], x: u8) -> bool
+    ensures { result ≡ fold (λ same y. same && (y == x)) true xs.now }
 {
-    if a {
-        return b;
-    }
-    false
+    xs.iter().fold(true, |same, y| same & (*y == x))
 }
 
-// The 32 bytes from index i on are all x. No test ends the loop, so that they are compared at once.
-fn is_block(xs: &[u8], i: usize, x: u8) -> bool
-    requires { i + 32 ≤ length xs.now }
-    ensures { Tells result xs.now i (i + 32) x }
+// How many bytes x come first.
+fn count_first(xs: &[u8], x: u8) -> usize
+    ensures front { result ≡ prefix_len (λ y. y == x) xs.now }
+    ensures within { result ≤ length xs.now }
 {
-    let mut same = true;
-    let mut k = 0;
-    while k < 32 {
-        same = both(same, xs[i + k] == x);
-        k += 1;
-    }
-    same
+    xs.iter().take_while(|y| **y == x).count()
 }
 
 // The index after the bytes x from index i on, in whole blocks of 32.
@@ -33,54 +25,25 @@ fn skip_blocks(xs: &[u8], i: usize, x: u8) -> usize
     requires { i ≤ length xs.now }
     ensures { Same xs.now i result x }
 {
-    let n = xs.len();
     let mut j = i;
-    while 32 <= n - j {
-        if !is_block(xs, j, x) {
-            return j;
-        }
+    while 32 <= xs.len() - j && are_all(&xs[j..j + 32], x) {
         j += 32;
     }
     j
 }
 
-// The index after the bytes x from index i on, before index end.
-fn skip(xs: &[u8], i: usize, end: usize, x: u8) -> usize
-    requires { (i ≤ end) × (end ≤ length xs.now) }
-    ensures { Skips xs.now i end x result }
-{
-    let mut j = i;
-    while j < end {
-        if xs[j] != x {
-            return j;
-        }
-        j += 1;
-    }
-    j
-}
-
-// At most 16 bytes from index i on.
-fn near(i: usize, n: usize) -> usize
-    requires { i ≤ n }
-    ensures { result ≡ min (i + 16) n }
-{
-    if 16 < n - i {
-        return i + 16;
-    }
-    n
-}
-
-// The index after the run of equal bytes that begins at index i.
+// The index after the run of equal bytes that begins at index i: most end within 16 bytes.
 pub fn run_end(xs: &[u8], i: usize) -> usize
     requires { i < length xs.now }
     ensures { Run xs.now i result }
 {
     let x = xs[i];
-    let n = xs.len();
-    let close = near(i, n);
-    let j = skip(xs, i + 1, close, x);
+    let close = xs.len().min(i + 16);
+    let j = i + 1 + count_first(&xs[i + 1..close], x);
     if j < close {
-        return j;
+        j
+    } else {
+        let k = skip_blocks(xs, j, x);
+        k + count_first(&xs[k..], x)
     }
-    skip(xs, skip_blocks(xs, j, x), n, x)
 }
