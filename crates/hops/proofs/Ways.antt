@@ -1,16 +1,15 @@
 -- n hops one way are one hop after another, and the nodes on the way. Assumes nothing.
-use mathlib.Core.Path.{◌≡◌, refl, sym, ◌∙◌}
-use mathlib.Core.Bool.{Bool, true, false, and-false}
-use Prim.Native.Nat.{ℕ, suc, ◌+◌, ◌≤◌, ◌<◌}
-use native.Mathlib.Omega.{arith}
-use native.Mathlib.Decide.{dec_lt}
-use borrow.Author.Tests.{le-leb}
+use Rattle.std.proofs.Common.{◌≡◌, refl, sym, ◌∙◌, Bool, true, false, List, ℕ, suc, ◌+◌, ◌≤◌, ◌<◌, arith}
+use Rattle.std.proofs.Math.Bool.{and-false}
+use Rattle.std.proofs.Math.Decide.{dec_lt}
+use Rattle.std.proofs.lemmas.Bool.{le-leb}
 use Rattle.mesh.specs.declared.Heading.{Heading}
 use Rattle.mesh.specs.declared.Heading.TheVariants.{East as E, North as N, South as S, West as W}
 use Rattle.mesh.specs.declared.Packet.{Packet}
 use Rattle.mesh.specs.Headings.{row_after, column_after}
 use Rattle.mesh.specs.Nodes.{ahead}
 use Rattle.mesh.specs.Hops.{moved, moved_packet}
+use Rattle.nodes.specs.Sized.{Sized}
 use Rattle.hops.specs.Moved.{row_by, column_by, moved_by, Lands, Reaches, Free}
 
 pub row-none : (h : Heading) (r : ℕ) → row_by h 0 r ≡ r
@@ -79,11 +78,11 @@ column-add S i k c = refl
 column-add W i k c = omega arith
 
 module _ {columns rows : ℕ} {h : Heading} {n r c : ℕ} (f : Reaches columns rows h n r c) where
-  pub reaches-lands : {i : ℕ} → i ≤ n → columns ≤ 64 → rows ≤ 64 → Lands h i r c
-  reaches-lands le few-columns few-rows =
+  pub reaches-lands : {map : List ℕ} {i : ℕ} → Sized columns rows map → i ≤ n → Lands h i r c
+  reaches-lands sized le =
       record {
-        row = omega (arith, f.row);
-        column = omega (arith, f.column);
+        row = omega (arith, f.row, sized.few-rows);
+        column = omega (arith, f.column, sized.few-columns);
         hops = omega (arith, f.hops);
         south = λ e. omega (arith, f.south e);
         west = λ e. omega (arith, f.west e);

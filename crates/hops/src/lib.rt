@@ -2,142 +2,125 @@
 #![tactic(auto)]
 
 ghost use Rattle.std.specs.Prelude.{◌≡◌, ◌≤◌, ◌<◌};
-ghost use Rattle.mesh.specs.declared.Heading.TheVariants.{South, West};
-ghost use Rattle.mesh.specs.Mesh.{mesh};
+ghost use Rattle.mesh.specs.Mesh.{place};
 ghost use Rattle.mesh.specs.Nodes.{bad};
 ghost use Rattle.mesh.specs.Hops.{stays, is_there};
-ghost use Rattle.nodes.specs.Sized.{Sized, OnMesh};
+ghost use Rattle.nodes.specs.Sized.{OnMesh};
 ghost use Rattle.hops.specs.Moved.{row_by, column_by, moved_by, Lands, Reaches, Free};
 ghost use Rattle.hops.specs.Tests.{Tests, entered};
 
 use headings::is_last;
-use mesh::{Broken, Column, Heading, Last, Mistake, Network, Packet, Place, Row, Tested};
-use nodes::is_bad_node;
+use mesh::{Column, Heading, Mistake, Network, Packet, Place, Row, TurnRule};
+use nodes::Nodes;
 use turns::{hop_breaks, turns_back};
 
 // Whether the hop stays on the mesh.
-fn stays(columns: u32, rows: u32, r: Row, c: Column, h: Heading) -> bool
-    requires { (r.0 < 64) × (c.0 < 64) }
-    ensures { result ≡ stays columns rows h r.0 c.0 }
+#[tactic(auto, unfolding(mesh::specs::Hops::stays))]
+fn stays(nodes: &Nodes, p: Place, h: Heading) -> bool
+    requires { OnMesh nodes.now p }
+    ensures { result ≡ stays nodes.now.columns nodes.now.rows h p.row.0 p.column.0 }
 {
     match h {
-        Heading::East => return c.0 + 1 < columns,
-        Heading::North => return r.0 + 1 < rows,
-        Heading::South => return 1 <= r.0,
-        Heading::West => return 1 <= c.0,
+        Heading::East => p.column.0 + 1 < nodes.columns,
+        Heading::North => p.row.0 + 1 < nodes.rows,
+        Heading::South => 1 <= p.row.0,
+        Heading::West => 1 <= p.column.0,
     }
 }
 
-// The row after n hops that way.
-fn row_by(r: Row, h: Heading, n: u32) -> Row
-    requires { (r.0 < 64) × (n < 65536) × (h ≡ South → n ≤ r.0) }
-    ensures { result.0 ≡ row_by h n r.0 }
+// The place n hops that way.
+#[tactic(auto, unfolding(crate::specs::Moved::row_by, crate::specs::Moved::column_by))]
+fn place_by(p: Place, h: Heading, n: u32) -> Place
+    requires { Lands h n p.row.0 p.column.0 }
+    ensures { result ≡ place (row_by h n p.row.0) (column_by h n p.column.0) }
 {
     match h {
-        Heading::East => return r,
-        Heading::North => return Row(r.0 + n),
-        Heading::South => return Row(r.0 - n),
-        Heading::West => return r,
-    }
-}
-
-// The column after n hops that way.
-fn column_by(c: Column, h: Heading, n: u32) -> Column
-    requires { (c.0 < 64) × (n < 65536) × (h ≡ West → n ≤ c.0) }
-    ensures { result.0 ≡ column_by h n c.0 }
-{
-    match h {
-        Heading::East => return Column(c.0 + n),
-        Heading::North => return c,
-        Heading::South => return c,
-        Heading::West => return Column(c.0 - n),
+        Heading::East => Place {
+            column: Column(p.column.0 + n),
+            ..p
+        },
+        Heading::North => Place {
+            row: Row(p.row.0 + n),
+            ..p
+        },
+        Heading::South => Place {
+            row: Row(p.row.0 - n),
+            ..p
+        },
+        Heading::West => Place {
+            column: Column(p.column.0 - n),
+            ..p
+        },
     }
 }
 
 // The packet after n hops that way.
+#[tactic(auto, unfolding(crate::specs::Moved::moved_by))]
 pub fn moved_by(p: Packet, h: Heading, n: u32) -> Packet
     requires { Lands h n p.place.row.0 p.place.column.0 }
     ensures { result ≡ moved_by h n p }
 {
-    let row = row_by(p.place.row, h, n);
-    let column = column_by(p.place.column, h, n);
-    let place = Place { row, column };
-    let last = Last::Made(h);
-    let destination = p.destination;
     Packet {
-        place,
-        last,
-        destination,
+        place: place_by(p.place, h, n),
+        last: Some(h),
+        ..p
     }
 }
 
 // How many of the next n nodes that way lie before the first bad one.
-pub fn count_free(columns: u32, rows: u32, marks: &[u8], s: Place, h: Heading, n: u32) -> u32
-    requires { Sized columns rows marks.now × Reaches columns rows h n s.row.0 s.column.0 }
-    ensures { Free (bad (mesh columns rows marks.now)) h n s.row.0 s.column.0 result }
+pub fn count_free(nodes: &Nodes, s: Place, h: Heading, n: u32) -> u32
+    requires { Reaches nodes.now.columns nodes.now.rows h n s.row.0 s.column.0 }
+    ensures { Free (bad nodes.now) h n s.row.0 s.column.0 result }
 {
-    let mut k = 0;
-    while k < n {
-        let row = row_by(s.row, h, k + 1);
-        let column = column_by(s.column, h, k + 1);
-        if is_bad_node(columns, rows, marks, row, column) {
+    let _ = &nodes.columns;
+    for k in 0..n {
+        if nodes.is_bad_node(place_by(s, h, k + 1)) {
             return k;
         }
-        k += 1;
     }
     n
 }
 
 // The last test of a hop, of the packet after it: whether it enters a block.
-fn enter(columns: u32, rows: u32, marks: &[u8], after: Packet) -> Tested
-    requires { OnMesh columns rows marks.now after.place.row.0 after.place.column.0 }
-    ensures { result ≡ entered (mesh columns rows marks.now) after }
+#[tactic(auto, unfolding(crate::specs::Tests::entered))]
+fn enter(nodes: &Nodes, after: Packet) -> Result<Packet, Mistake>
+    requires { OnMesh nodes.now after.place }
+    ensures { result ≡ entered nodes.now after }
 {
-    if is_bad_node(columns, rows, marks, after.place.row, after.place.column) {
-        return Tested::Wrong(Mistake::EntersBlock);
+    if nodes.is_bad_node(after.place) {
+        Err(Mistake::EntersBlock)
+    } else {
+        Ok(after)
     }
-    Tested::Lawful(after)
 }
 
 // What is wrong with a hop, tested in the order of the paper. A hop straight on makes no turn.
-pub fn test_hop(
-    network: Network,
-    columns: u32,
-    rows: u32,
-    marks: &[u8],
-    p: Packet,
-    h: Heading,
-) -> Tested
-    requires { OnMesh columns rows marks.now p.place.row.0 p.place.column.0 }
-    ensures { Tests network (mesh columns rows marks.now) p h result }
+pub fn test_hop(network: Network, nodes: &Nodes, p: Packet, h: Heading) -> Result<Packet, Mistake>
+    requires { OnMesh nodes.now p.place }
+    ensures { Tests network nodes.now p h result }
 {
-    let c = p.place.column;
-    let l = p.last;
-    if !stays(columns, rows, p.place.row, c, h) {
-        return Tested::Wrong(Mistake::LeavesMesh);
+    let _ = &nodes.columns;
+    if !stays(nodes, p.place, h) {
+        return Err(Mistake::LeavesMesh);
     }
     let after = moved_by(p, h, 1);
-    if is_last(l, h) {
-        return enter(columns, rows, marks, after);
+    if is_last(p.last, h) {
+        return enter(nodes, after);
     }
-    if turns_back(l, h) {
-        return Tested::Wrong(Mistake::Reverses);
+    if turns_back(p.last, h) {
+        return Err(Mistake::Reverses);
     }
-    let broken = hop_breaks(network, l, h, c);
-    match broken {
-        Broken::Neither => {}
-        Broken::Rule1 => return Tested::Wrong(Mistake::BreaksRule1),
-        Broken::Rule2 => return Tested::Wrong(Mistake::BreaksRule2),
+    match hop_breaks(network, p.last, h, p.place.column) {
+        Some(TurnRule::Rule1) => Err(Mistake::BreaksRule1),
+        Some(TurnRule::Rule2) => Err(Mistake::BreaksRule2),
+        None => enter(nodes, after),
     }
-    enter(columns, rows, marks, after)
 }
 
 // Whether the packet is at its destination.
+#[tactic(auto, unfolding(mesh::specs::Hops::is_there))]
 pub fn is_there(p: Packet) -> bool
     ensures { result ≡ is_there p }
 {
-    if p.place.row.0 != p.destination.row.0 {
-        return false;
-    }
-    p.place.column.0 == p.destination.column.0
+    p.place == p.destination
 }

@@ -50,11 +50,7 @@ fn rule_of(n: u32) -> Option<TurnRule>
 fn turn_breaks(network: Network, before: Heading, after: Heading, c: Column) -> Option<TurnRule>
     ensures { result ≡ turn_breaks (turns_west network) c.0 before after }
 {
-    rule_of(broken_rule(
-        code(before),
-        code(after),
-        remainder(network, c),
-    ))
+    rule_of(broken_rule(code(before), code(after), remainder(network, c)))
 }
 
 // Whether the second hop goes back where the first came from.
