@@ -1,41 +1,26 @@
--- Where a fault is allowed, and what refusals 1 to 3 and 1 to 5 let pass. Assumes nothing.
-use mathlib.Core.Path.{◌≡◌}
-use mathlib.Core.Bool.{Bool, false, not, and-false}
-use mathlib.Core.List.{List}
-use Prim.Native.Nat.{ℕ, ◌+◌, ◌*◌, ◌/◌, ◌%◌, ◌≤◌, ◌<◌}
-use native.Mathlib.Omega.{arith}
-use borrow.Author.Tests.{lt-ltb, le-ltb, le-leb, lt-leb, ne_eqb}
-use lib.Dec.{ltb}
-use lib.ListN.{length}
+-- Bytes above 1 and faults out of place, and what refusals 1 to 3 and 1 to 5 let pass. Assumes nothing.
+use Rattle.std.proofs.Common.{◌≡◌, refl, Bool, false, not, List, [], ◌∷◌, ℕ, suc, ◌/◌, ◌%◌, ◌≤◌, ltb, length, arith}
+use Rattle.std.specs.List.{list_any}
+use borrow.Author.Tests.{ne_eqb}
 use Rattle.mesh.specs.Nodes.{is_bad}
 use Rattle.mesh.specs.Tests.{first}
-use Rattle.mesh.specs.Maps.{allowed, bad_size, bad_length, misplaced_at, map_tests}
+use Rattle.mesh.specs.Maps.{allowed, bad_size, bad_length, some, bad_byte, misplaced_at, map_tests}
 use Rattle.mesh.proofs.Maps.{good-size, good_length, accepted}
-use Rattle.mesh.proofs.Index.{place_of, few-nodes}
+use Rattle.mesh.proofs.Index.{few-nodes}
 use Rattle.nodes.specs.Sized.{Sized}
 use Rattle.nodes.proofs.Lookup.{is_bad-test}
 
-module _ (columns rows r c : ℕ) where
-  pub allowed-south : r < 1 → false ≡ allowed columns rows r c
-  unfolding allowed
-  allowed-south h = rw (lt-leb 1 r h)
+-- a test that needs no index
+some-any : (t : ℕ → Bool) (i : ℕ) (xs : List ℕ) → list_any t xs ≡ some (λ _ x. t x) i xs
+unfolding some
+some-any t i [] = refl
+some-any t i (x ∷ xs) = rw (some-any t (suc i) xs)
 
-  pub allowed-north : rows ≤ r + 1 → false ≡ allowed columns rows r c
-  unfolding allowed
-  allowed-north h = rw (le-ltb (r + 1) rows h, and-false)
-
-  pub allowed-west : c < 2 → false ≡ allowed columns rows r c
-  unfolding allowed
-  allowed-west h = rw (lt-leb 2 c h, and-false)
-
-  pub allowed-east : 1 ≤ r → r + 1 < rows → 2 ≤ c → ltb (c + 2) columns ≡ allowed columns rows r c
-  unfolding allowed
-  allowed-east s n w = rw (le-leb 1 r s, lt-ltb (r + 1) rows n, le-leb 2 c w)
+pub any-bad : (map : List ℕ) → list_any (λ x. ltb 1 x) map ≡ bad_byte map
+unfolding bad_byte
+any-bad map = some-any (λ x. ltb 1 x) 0 map
 
 module _ (columns rows i x : ℕ) where
-  pub place-fits : columns ≤ 64 → rows ≤ 64 → i < columns * rows → (0 < columns) × (i / columns < 64) × (i % columns < 64)
-  place-fits p q h = let f = place_of columns rows i h in (f.some, omega arith, omega arith)
-
   pub sound-placed : x ≡ 0 → false ≡ misplaced_at columns rows i x
   unfolding misplaced_at is_bad
   sound-placed e = rw e

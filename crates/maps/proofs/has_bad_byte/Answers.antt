@@ -1,21 +1,10 @@
--- No byte before index i is above 1, so the rest decides. Assumes nothing.
-use mathlib.Core.Path.{refl}
-use native.Mathlib.Omega.{arith}
-use borrow.Author.Tests.{lt-ltb, le-ltb}
-use Rattle.mesh.specs.Maps.{bad_byte}
-use Rattle.mesh.proofs.Some.{looked-none, looked-here, looked-more, looked-all}
+-- The bytes are tried in turn. Assumes nothing.
+use Rattle.std.proofs.Common.{rules, tests, ◌∙◌, ltb}
+use Rattle.std.proofs.lemmas.Iterator.{YieldsList-from_slice}
+use Rattle.std.proofs.lemmas.Iterator.Search.{any_from_yields_List}
+use Rattle.maps.proofs.Checks.{any-bad}
 use Rattle.maps.proofs.has_bad_byte.Goals as goal
 
-pub loop-i-init : goal.loop-i-init
-loop-i-init c = looked-none _ refl
-
-pub returns-then-map-i-gt1 : goal.returns-then-map-i-gt1
-unfolding bad_byte
-returns-then-map-i-gt1 c = looked-here c.loop-i.invariant (omega arith) (lt-ltb _ _ c.if-map-i-gt1.true)
-
-pub loop-i-preserved : goal.loop-i-preserved
-loop-i-preserved c = looked-more c.loop-i.invariant (omega arith) (le-ltb _ _ c.if-map-i-gt1.false)
-
 pub returns : goal.returns
-unfolding bad_byte
-returns c = looked-all c.loop-i.invariant (omega arith)
+returns c =
+    any_from_yields_List (λ x. ltb 1 x) _ _ _ c.any.ensures.ran (YieldsList-from_slice c.args.map.now (cc)) (λ x b q k. search (rules, tests)) ∙ any-bad _
