@@ -75,7 +75,7 @@ settled-next w size r p here south north =
           (here.rests c k);
     }
 
-pub quiet-settled : {w : Mesh} {x : Bool} {changed now : List ℕ} → length w.map ≡ w.columns * w.rows → Rounded w x changed now →
+pub quiet-settled : {w : Mesh} {x : Bool} {changed : List Bool} {now : List ℕ} → length w.map ≡ w.columns * w.rows → Rounded w x changed now →
     QuietSettled (on w now) changed
 quiet-settled {w} size t =
     record {

@@ -3,71 +3,53 @@
 
 ghost use Rattle.std.specs.Prelude.{◌≡◌, ◌≤◌, ◌<◌, length};
 ghost use Rattle.mesh.specs.Mesh.{mesh};
-ghost use Rattle.mesh.specs.Nodes.{bad};
 ghost use Rattle.nodes.specs.Sized.{Sized};
-ghost use Rattle.rounds.specs.Rounds.{RowAfter, DueAfter, Copied, RowCopied, OthersSettled, Rounded, Near, Spread, QuietSettled, Settles};
+ghost use Rattle.rounds.specs.Rounds.{RowAfter, DueAfter, RowCopied, OthersSettled, Rounded, Near, Spread, QuietSettled, Settles};
 
-use mesh::{Column, Row};
-use nodes::node_after;
+use mesh::{Column, Place, Row};
+use nodes::Nodes;
 
 // One row of a round.
-fn round_row(columns: u32, rows: u32, map: &[u8], next: &mut [u8], r: Row)
-    requires { Sized columns rows map.now × (r.0 < rows) × (length map.now ≤ length next.old) }
-    ensures { RowAfter (mesh columns rows map.now) r.0 columns next.old next.new }
+fn round_row(nodes: &Nodes, next: &mut [u8], row: Row)
+    requires { (row.0 < nodes.now.rows) × (length nodes.now.map ≤ length next.old) }
+    ensures { RowAfter nodes.now row.0 nodes.now.columns next.old next.new }
 {
-    let row = r.0;
-    let start = row * columns;
-    let mut column: u32 = 0;
-    while column < columns {
-        let at = start + column;
-        next[at as usize] = node_after(columns, rows, map, Row(row), Column(column));
-        column += 1;
+    let start = row.0 * nodes.columns;
+    for column in 0..nodes.columns {
+        next[(start + column) as usize] = nodes.node_after(Place {
+            row,
+            column: Column(column),
+        });
     }
 }
 
 // The due rows of a round, from a map to another.
-fn round(columns: u32, rows: u32, map: &[u8], due: &[u8], next: &mut [u8])
-    requires { Sized columns rows map.now × (rows ≤ length due.now) × (length map.now ≤ length next.old) }
-    ensures { DueAfter (mesh columns rows map.now) due.now rows next.new }
+fn round(nodes: &Nodes, due: &[bool], next: &mut [u8])
+    requires { (nodes.now.rows ≤ length due.now) × (length nodes.now.map ≤ length next.old) }
+    ensures { DueAfter nodes.now due.now nodes.now.rows next.new }
 {
-    let mut row: u32 = 0;
-    while row < rows {
-        if due[row as usize] != 0 {
-            round_row(columns, rows, map, next, Row(row));
+    for row in 0..nodes.rows {
+        if due[row as usize] {
+            round_row(nodes, next, Row(row));
         }
-        row += 1;
     }
-}
-
-// Copies the numbers from start up to end over those of another list, and says whether that changes anything.
-fn copy_part(from: &[u8], to: &mut [u8], start: usize, end: usize) -> bool
-    requires { (start ≤ end) × (end ≤ length from.now) × (end ≤ length to.old) }
-    ensures { Copied from.now to.old start end result to.new }
-{
-    let mut changed = false;
-    let mut i = start;
-    while i < end {
-        if from[i] != to[i] {
-            changed = true;
-        }
-        to[i] = from[i];
-        i += 1;
-    }
-    changed
 }
 
 // Copies row r if it is due, and says whether that changes anything.
-fn copy_row(columns: u32, rows: u32, next: &[u8], due: &[u8], out: &mut [u8], r: Row) -> bool
+fn copy_row(columns: u32, rows: u32, next: &[u8], due: &[bool], out: &mut [u8], r: Row) -> bool
     requires { Sized columns rows out.old × (r.0 < rows) × (rows ≤ length due.now) × (length out.old ≤ length next.now) }
     ensures { RowCopied columns r.0 next.now due.now out.old result out.new }
 {
-    let row = r.0;
-    if due[row as usize] == 0 {
+    if !due[r.0 as usize] {
         return false;
     }
-    let start = row * columns;
-    let end = start + columns;
-    copy_part(next, out, start as usize, end as usize)
+    let start = (r.0 * columns) as usize;
+    let end = start + columns as usize;
+    let from = &next[start..end];
+    let to = &mut out[start..end];
+    let changed = *to != *from;
+    to.copy_from_slice(from);
+    changed
 }
 
 // Copies the due rows; says of each row and of them all whether that changes anything.
@@ -75,57 +57,38 @@ fn copy_round(
     columns: u32,
     rows: u32,
     next: &[u8],
-    due: &[u8],
-    changed: &mut [u8],
+    due: &[bool],
+    changed: &mut [bool],
     out: &mut [u8],
 ) -> bool
     requires { Sized columns rows out.old × (rows ≤ length changed.old) × (rows ≤ length due.now) × (length out.old ≤ length next.now) × DueAfter (mesh columns rows out.old) due.now rows next.now × OthersSettled (mesh columns rows out.old) due.now }
     ensures { Rounded (mesh columns rows out.old) result changed.new out.new }
 {
     let mut any = false;
-    let mut row: u32 = 0;
-    while row < rows {
-        if copy_row(columns, rows, next, due, out, Row(row)) {
-            changed[row as usize] = 1;
-            any = true;
-        } else {
-            changed[row as usize] = 0;
-        }
-        row += 1;
+    for row in 0..rows {
+        let row_changed = copy_row(columns, rows, next, due, out, Row(row));
+        changed[row as usize] = row_changed;
+        any |= row_changed;
     }
     any
 }
 
-// 0 exactly if neither row r nor a row beside it changed.
-fn near(rows: u32, changed: &[u8], r: Row) -> u8
+// Whether row r or a row beside it changed.
+fn near(rows: u32, changed: &[bool], r: Row) -> bool
     requires { (rows ≤ 64) × (rows ≤ length changed.now) × (r.0 < rows) }
     ensures { Near rows changed.now r.0 result }
 {
-    let row = r.0;
-    let at = row as usize;
-    if changed[at] != 0 {
-        return 1;
-    }
-    if 0 < at {
-        if changed[at - 1] != 0 {
-            return 1;
-        }
-    }
-    if row + 1 < rows {
-        return changed[at + 1];
-    }
-    0
+    let at = r.0 as usize;
+    changed[at] || (0 < at && changed[at - 1]) || (r.0 + 1 < rows && changed[at + 1])
 }
 
 // Finds the rows that are due in the next round: no other can change.
-fn spread(rows: u32, changed: &[u8], due: &mut [u8])
+fn spread(rows: u32, changed: &[bool], due: &mut [bool])
     requires { (rows ≤ 64) × (rows ≤ length changed.now) × (rows ≤ length due.old) }
     ensures { Spread rows changed.now rows due.new }
 {
-    let mut row: u32 = 0;
-    while row < rows {
+    for row in 0..rows {
         due[row as usize] = near(rows, changed, Row(row));
-        row += 1;
     }
 }
 
@@ -136,14 +99,22 @@ fn round_in_place(
     rows: u32,
     out: &mut [u8],
     next: &mut [u8],
-    changed: &mut [u8],
+    changed: &mut [bool],
 ) -> bool
     requires { Sized columns rows out.old × (length out.old ≤ length next.old) × (rows ≤ length changed.old) × QuietSettled (mesh columns rows out.old) changed.old }
     ensures { Rounded (mesh columns rows out.old) result changed.new out.new }
 {
-    let mut due = [0u8; 64];
+    let mut due = [false; 64];
     spread(rows, changed, &mut due);
-    round(columns, rows, out, &due, next);
+    round(
+        &Nodes {
+            columns,
+            rows,
+            map: out,
+        },
+        &due,
+        next,
+    );
     copy_round(columns, rows, next, &due, changed, out)
 }
 
@@ -153,21 +124,19 @@ pub fn settle(columns: u32, rows: u32, out: &mut [u8]) -> u32
     ensures { Settles (mesh columns rows out.old) result out.new }
 {
     let mut next = [0u8; 4096];
-    let mut changed = [1u8; 64];
-    let mut any = true;
-    let mut made: u32 = 0;
-    while any {
-        any = round_in_place(columns, rows, out, &mut next, &mut changed);
+    let mut changed = [true; 64];
+    let mut made: u32 = 1;
+    while round_in_place(columns, rows, out, &mut next, &mut changed) {
         made += 1;
     }
     made
 }
 
 // The marking of a fault map, in another, and how many rounds that took.
-pub fn mark(columns: u32, rows: u32, map: &[u8], out: &mut [u8]) -> u32
-    requires { Sized columns rows map.now × (length out.old ≡ length map.now) }
-    ensures { Settles (mesh columns rows map.now) result out.new }
+pub fn mark(nodes: &Nodes, out: &mut [u8]) -> u32
+    requires { length out.old ≡ length nodes.now.map }
+    ensures { Settles nodes.now result out.new }
 {
-    copy_part(map, out, 0, map.len());
-    settle(columns, rows, out)
+    out.copy_from_slice(nodes.map);
+    settle(nodes.columns, nodes.rows, out)
 }
