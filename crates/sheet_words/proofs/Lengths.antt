@@ -1,23 +1,16 @@
 -- A line of more than 20 bytes says nothing: `send` and four spaced numbers of three digits are the longest. Assumes nothing.
-use mathlib.Core.Path.{◌≡◌, refl}
-use mathlib.Core.Bool.{Bool, true, false, cond}
-use mathlib.Core.List.{List, [], ◌∷◌}
-use Prim.Native.Nat.{ℕ, zero, suc, ◌+◌, ◌≤◌, ◌<◌}
-use native.Mathlib.Omega.{arith}
-use lib.Dec.{eqb}
-use lib.ListN.{length, drop, length-drop}
+use Rattle.std.proofs.Common.{◌≡◌, ℕ, zero, suc, ◌+◌, ◌≤◌, ◌<◌, Bool, true, false, cond, List, [], ◌∷◌, Option, None, Some, length, drop, eqb, refl, arith, length-drop}
 use Rattle.sheet_words.specs.declared.Command.{Command}
-use Rattle.sheet_words.specs.declared.Command.TheVariants.{Malformed}
-use Rattle.sheet_words.specs.Words.{is_digit, Number, none, some, more, number, spaced, Two, second, first, two, ended, begins, mesh_word, fault_word, send_word, sizes, fault, send_to, send, command}
+use Rattle.sheet_words.specs.Words.{is_digit, Number, more, number, spaced, Two, second, first, two, ended, begins, mesh_word, fault_word, send_word, sizes, fault, send_to, send, command}
 
 -- if there is a number, at least m bytes follow it
 pub data Followed (m : ℕ) : Number → Type 0 where
-  no_number : Followed m none
-  after : {n : ℕ} {xs : List ℕ} → m ≤ length xs → Followed m (some n xs)
+  no_number : Followed m None
+  after : {n : ℕ} {xs : List ℕ} → m ≤ length xs → Followed m (Some (n, xs))
 
 pub data FollowedTwo (m : ℕ) : Two → Type 0 where
-  no-two : FollowedTwo m none
-  after_two : {a b : ℕ} {xs : List ℕ} → m ≤ length xs → FollowedTwo m (some a b xs)
+  no-two : FollowedTwo m None
+  after_two : {a b : ℕ} {xs : List ℕ} → m ≤ length xs → FollowedTwo m (Some ((a, b), xs))
 
 either : (P : Number → Type 0) (b : Bool) {x y : Number} → P x → P y → P (cond b x y)
 either P true p q = p
@@ -55,26 +48,26 @@ unfolding two
 two-followed m xs h = first-followed m (spaced-followed (m + 4) xs (omega arith))
 
 -- what something follows is not at the end
-followed-ended : {t : Two} → FollowedTwo 1 t → ended t ≡ none
+followed-ended : {t : Two} → FollowedTwo 1 t → ended t ≡ None
 unfolding ended
 followed-ended no-two = refl
 followed-ended (after_two {xs = []} h) = absurd (omega arith)
 followed-ended (after_two {xs = x ∷ xs} h) = refl
 
-long-ended : (xs : List ℕ) → 9 ≤ length xs → ended (two xs) ≡ none
+long-ended : (xs : List ℕ) → 9 ≤ length xs → ended (two xs) ≡ None
 long-ended xs h = followed-ended (two-followed 1 xs (omega arith))
 
-long-send : {t : Two} → FollowedTwo 9 t → send t ≡ Malformed
+long-send : {t : Two} → FollowedTwo 9 t → send t ≡ None
 unfolding send send_to
 long-send no-two = refl
 long-send (after_two h) = rw (long-ended _ h)
 
-pub long-malformed : (xs : List ℕ) → 20 < length xs → command xs ≡ Malformed
+pub long-malformed : (xs : List ℕ) → 20 < length xs → command xs ≡ None
 unfolding command sizes fault
 long-malformed xs h =
     rw (long-ended (drop 4 xs) (simp length-drop (omega arith)), long-ended (drop 5 xs) (simp length-drop (omega arith)), long-send (two-followed 9 (drop 4 xs) (simp length-drop (omega arith))))
     (same (begins mesh_word xs) (same (begins fault_word xs) (same (begins send_word xs) refl)))
   where
-    same : (b : Bool) {x : Command} → x ≡ Malformed → cond b Malformed x ≡ Malformed
+    same : (b : Bool) {x : Option Command} → x ≡ None → cond b None x ≡ None
     same true e = refl
     same false e = e

@@ -1,5 +1,4 @@
+pub mod Conds
 pub mod Digits
-pub mod Spelling
 pub mod Begins
-pub mod Commands
 pub mod Lengths

@@ -1,27 +1,17 @@
--- What the functions that read a line answer, in the terms of the definitions: an index stands for the line from there on. Assumes nothing.
-use Rattle.std.specs.Prelude.{List, ℕ, drop}
-use Rattle.sheet_words.specs.declared.Spelled.{Spelled}
-use Rattle.sheet_words.specs.declared.Spelled.TheVariants.{Nothing as no, Number as spelled}
-use Rattle.sheet_words.specs.declared.Both.{Both}
-use Rattle.sheet_words.specs.declared.Both.TheVariants.{Nothing as neither, Two as both}
-use Rattle.sheet_words.specs.Words.{Number, none, some, more, spaced, Two, two, ended}
+-- What the functions that read a line answer, in the terms of the definitions. Assumes nothing.
+use Rattle.std.specs.Prelude.{List, [], ◌∷◌, ℕ, ◌-◌, cond, length, drop, Option, None, Some, option_map}
+use Rattle.std.specs.Borrow.{Bor}
+use Rattle.sheet_words.specs.Words.{is_digit, Number, begins}
 
-unfoldable pub number_of : List ℕ → Spelled → Number
-number_of xs no = none
-number_of xs (spelled n i) = some n (drop i xs)
+-- what was read, and the text behind the reference
+abbrev pub read_view : {A : Type 0} → Option (A × Bor (List ℕ)) → Option (A × List ℕ)
+read_view r = option_map (λ p. (p.0, p.1.now)) r
 
-unfoldable pub two_of : List ℕ → Both → Two
-two_of xs neither = none
-two_of xs (both a b i) = some a b (drop i xs)
+-- what follows a word at the front
+unfoldable pub after : List ℕ → List ℕ → Option (List ℕ)
+after word xs = cond (begins word xs) (Some (drop (length word) xs)) None
 
-unfoldable pub more_at : ℕ → ℕ → List ℕ → ℕ → Number
-more_at k n xs i = more k n (drop i xs)
-
-unfoldable pub spaced_at : List ℕ → ℕ → Number
-spaced_at xs i = spaced (drop i xs)
-
-unfoldable pub two_at : List ℕ → ℕ → Two
-two_at xs i = two (drop i xs)
-
-unfoldable pub last_at : List ℕ → ℕ → Two
-last_at xs i = ended (two (drop i xs))
+-- one digit, and what follows it
+unfoldable pub digit : List ℕ → Number
+digit [] = None
+digit (x ∷ xs) = cond (is_digit x) (Some (x - 48, xs)) None

@@ -1,12 +1,21 @@
 // The lines of a sheet, as commands.
 #![tactic(auto)]
 
-ghost use Rattle.std.specs.Prelude.{◌≡◌, true, ◌+◌, ◌-◌, ◌*◌, ◌^◌, ◌≤◌};
-ghost use Rattle.sheet_words.specs.Words.{is_digit, begins, sizes, fault, send_to, send, command, command_at};
-ghost use Rattle.sheet_words.specs.Reading.{number_of, two_of, more_at, spaced_at, two_at, last_at};
+ghost use Rattle.std.specs.Prelude.{◌≡◌, ◌+◌, ◌*◌, ◌^◌, ◌≤◌, ◌<◌, Some, IfSome, option_copied};
+ghost use Rattle.mesh.specs.Mesh.{place};
+ghost use Rattle.sheet_words.specs.Words.{more, spaced, two, ended, sizes, fault, send_to, send, command, command_at};
+ghost use Rattle.sheet_words.specs.Reading.{read_view, after, digit};
 
-use mesh::Place;
-use numbers::place_of;
+use mesh::{Column, Place, Row};
+
+fn place_of(row: u32, column: u32) -> Place
+    ensures { result ≡ place row column }
+{
+    Place {
+        row: Row(row),
+        column: Column(column),
+    }
+}
 
 // What a line says. Its numbers have one to three digits; whether they fit the mesh is not asked here.
 #[derive(Clone, Copy)]
@@ -14,223 +23,121 @@ pub enum Command {
     Mesh(u32, u32),
     Fault(Place),
     Send(Place, Place),
-    Malformed,
 }
 
-// A number that was read, and the index after it.
-#[derive(Clone, Copy)]
-enum Spelled {
-    Nothing,
-    Number(u32, usize),
-}
-
-// Two numbers that were read, and the index after the second.
-#[derive(Clone, Copy)]
-enum Both {
-    Nothing,
-    Two(u32, u32, usize),
-}
-
-fn is_digit(x: u8) -> bool
-    ensures { result ≡ is_digit x }
+// The text after a word that it begins with.
+fn after<'a>(text: &'a [u8], word: &[u8]) -> Option<&'a [u8]>
+    ensures { option_copied result ≡ after word.now text.now }
 {
-    if x < b'0' {
-        return false;
+    text.strip_prefix(word)
+}
+
+// A digit, and the text after it.
+#[tactic(auto, unfolding(crate::specs::Reading::digit, crate::specs::Words::is_digit))]
+fn read_digit(text: &[u8]) -> Option<(u32, &[u8])>
+    ensures is { read_view result ≡ digit text.now }
+    ensures bound { IfSome result (λ p. p.0 < 10) }
+{
+    match text {
+        [x @ b'0'..=b'9', rest @ ..] => Some((u32::from(*x - b'0'), rest)),
+        _ => None,
     }
-    x <= b'9'
 }
 
-fn digit(x: u8) -> u32
-    requires { is_digit x ≡ true }
-    ensures { result ≡ x - 48 }
-{
-    (x - b'0') as u32
-}
-
-// Up to `left` digits more, from there on, after digits of value n.
-fn read_more(line: &[u8], at: usize, left: u32, n: u32) -> Spelled
+// Up to `left` digits more, after digits of value n; and the text after them.
+fn read_more(text: &[u8], left: u32, n: u32) -> (u32, &[u8])
     requires { (n + 1) * 10 ^ left ≤ 1000 }
-    ensures { number_of line.now result ≡ more_at left n line.now at }
+    ensures { Some (result.0, result.1.now) ≡ more left n text.now }
 {
-    let mut i = at;
-    let mut k = left;
     let mut value = n;
-    while 0 < k {
-        if line.len() <= i {
-            return Spelled::Number(value, i);
-        }
-        let x = line[i];
-        if !is_digit(x) {
-            return Spelled::Number(value, i);
-        }
-        value = 10 * value + digit(x);
-        i += 1;
-        k -= 1;
+    let mut rest = text;
+    for _ in 0..left {
+        let Some((digit, next)) = read_digit(rest) else {
+            return (value, rest);
+        };
+        value = 10 * value + digit;
+        rest = next;
     }
-    Spelled::Number(value, i)
+    (value, rest)
 }
 
-// A single space and a number of one to three digits, from there on.
-fn read_number(line: &[u8], at: usize) -> Spelled
-    ensures { number_of line.now result ≡ spaced_at line.now at }
+// A single space and a number of one to three digits; and the text after them.
+fn read_number(text: &[u8]) -> Option<(u32, &[u8])>
+    ensures { read_view result ≡ spaced text.now }
 {
-    if line.len() <= at {
-        return Spelled::Nothing;
-    }
-    if line[at] != b' ' {
-        return Spelled::Nothing;
-    }
-    let first = at + 1;
-    if line.len() <= first {
-        return Spelled::Nothing;
-    }
-    let x = line[first];
-    if !is_digit(x) {
-        return Spelled::Nothing;
-    }
-    read_more(line, first + 1, 2, digit(x))
+    let (first, rest) = read_digit(after(text, b" ")?)?;
+    Some(read_more(rest, 2, first))
 }
 
-// Two spaced numbers, from there on.
-fn read_two(line: &[u8], at: usize) -> Both
-    ensures { two_of line.now result ≡ two_at line.now at }
+// Two spaced numbers, and the text after them.
+#[tactic(auto, unfolding(crate::specs::Words::two, crate::specs::Words::first, crate::specs::Words::second))]
+fn read_two(text: &[u8]) -> Option<((u32, u32), &[u8])>
+    ensures { read_view result ≡ two text.now }
 {
-    let one = read_number(line, at);
-    match one {
-        Spelled::Nothing => {
-            return Both::Nothing;
-        }
-        Spelled::Number(a, next) => {
-            let other = read_number(line, next);
-            match other {
-                Spelled::Nothing => {
-                    return Both::Nothing;
-                }
-                Spelled::Number(b, end) => {
-                    return Both::Two(a, b, end);
-                }
-            }
-        }
-    }
+    let (a, rest) = read_number(text)?;
+    let (b, rest) = read_number(rest)?;
+    Some(((a, b), rest))
 }
 
-// Whether the line begins with the word.
-fn has_word(line: &[u8], word: &[u8]) -> bool
-    ensures { result ≡ begins word.now line.now }
+// Two spaced numbers with nothing after them.
+#[tactic(auto, unfolding(crate::specs::Words::ended))]
+fn read_last(text: &[u8]) -> Option<(u32, u32)>
+    ensures { result ≡ ended (two text.now) }
 {
-    let mut i = 0;
-    while i < word.len() {
-        if line.len() <= i {
-            return false;
-        }
-        if line[i] != word[i] {
-            return false;
-        }
-        i += 1;
-    }
-    true
-}
-
-// Two spaced numbers with nothing after them, from there on.
-fn read_last(line: &[u8], at: usize) -> Both
-    ensures { two_of line.now result ≡ last_at line.now at }
-{
-    let got = read_two(line, at);
-    match got {
-        Both::Nothing => {
-            return Both::Nothing;
-        }
-        Both::Two(a, b, end) => {
-            if end < line.len() {
-                return Both::Nothing;
-            }
-            return Both::Two(a, b, end);
-        }
-    }
+    let (numbers, rest) = read_two(text)?;
+    if rest.is_empty() { Some(numbers) } else { None }
 }
 
 // After `mesh`.
-fn read_mesh(line: &[u8]) -> Command
-    ensures { result ≡ sizes (last_at line.now 4) }
+#[tactic(auto, unfolding(crate::specs::Words::sizes))]
+fn read_mesh(text: &[u8]) -> Option<Command>
+    ensures { result ≡ sizes (ended (two text.now)) }
 {
-    let got = read_last(line, 4);
-    match got {
-        Both::Nothing => {
-            return Command::Malformed;
-        }
-        Both::Two(columns, rows, _) => {
-            return Command::Mesh(columns, rows);
-        }
-    }
+    let (columns, rows) = read_last(text)?;
+    Some(Command::Mesh(columns, rows))
 }
 
 // After `fault`.
-fn read_fault(line: &[u8]) -> Command
-    ensures { result ≡ fault (last_at line.now 5) }
+#[tactic(auto, unfolding(crate::specs::Words::fault))]
+fn read_fault(text: &[u8]) -> Option<Command>
+    ensures { result ≡ fault (ended (two text.now)) }
 {
-    let got = read_last(line, 5);
-    match got {
-        Both::Nothing => {
-            return Command::Malformed;
-        }
-        Both::Two(row, column, _) => {
-            return Command::Fault(place_of(row, column));
-        }
-    }
-}
-
-// After `send` and its source.
-fn read_destination(line: &[u8], at: usize, source: Place) -> Command
-    ensures { result ≡ send_to source (last_at line.now at) }
-{
-    let got = read_last(line, at);
-    match got {
-        Both::Nothing => {
-            return Command::Malformed;
-        }
-        Both::Two(row, column, _) => {
-            return Command::Send(source, place_of(row, column));
-        }
-    }
+    let (row, column) = read_last(text)?;
+    Some(Command::Fault(place_of(row, column)))
 }
 
 // After `send`.
-fn read_send(line: &[u8]) -> Command
-    ensures { result ≡ send (two_at line.now 4) }
+#[tactic(auto, unfolding(crate::specs::Words::send, crate::specs::Words::send_to))]
+fn read_send(text: &[u8]) -> Option<Command>
+    ensures { result ≡ send (two text.now) }
 {
-    let got = read_two(line, 4);
-    match got {
-        Both::Nothing => {
-            return Command::Malformed;
-        }
-        Both::Two(row, column, next) => {
-            return read_destination(line, next, place_of(row, column));
-        }
-    }
+    let ((row, column), rest) = read_two(text)?;
+    let source = place_of(row, column);
+    let (row, column) = read_last(rest)?;
+    Some(Command::Send(source, place_of(row, column)))
 }
 
 // What a line says, without its newline.
-fn read_command(line: &[u8]) -> Command
+fn read_command(line: &[u8]) -> Option<Command>
     ensures { result ≡ command line.now }
 {
-    if has_word(line, b"mesh") {
-        return read_mesh(line);
+    if let Some(rest) = after(line, b"mesh") {
+        read_mesh(rest)
+    } else if let Some(rest) = after(line, b"fault") {
+        read_fault(rest)
+    } else {
+        read_send(after(line, b"send")?)
     }
-    if has_word(line, b"fault") {
-        return read_fault(line);
-    }
-    if has_word(line, b"send") {
-        return read_send(line);
-    }
-    Command::Malformed
 }
 
-// What line `number` of a sheet says, without its newline.
-pub fn read_line(number: u32, text: &[u8]) -> Command
+// What line `number` of a sheet says, without its newline; none where it is malformed.
+#[tactic(auto, unfolding(crate::specs::Words::command_at))]
+pub fn read_line(number: u32, text: &[u8]) -> Option<Command>
     ensures { result ≡ command_at number text.now }
 {
-    if 65535 < number {
-        return Command::Malformed;
+    if number <= 65535 {
+        read_command(text)
+    } else {
+        None
     }
-    read_command(text)
 }

@@ -1,21 +1,17 @@
 -- The words are tried in the order of the definition. Assumes nothing.
-use Rattle.sheet_words.proofs.Commands.{command-mesh, command-fault, command-send, command-none}
+use Rattle.std.proofs.Common.{arith}
+use Rattle.std.proofs.lemmas.Grind.{common_steps}
+use Rattle.sheet_words.proofs.Begins.{command-mesh, command-fault, command-send, command-none}
 use Rattle.sheet_words.proofs.read_command.Goals as goal
 
-pub returns-then-has_word : goal.returns-then-has_word
-returns-then-has_word c = command-mesh _ c.has_word.ensures c.if-has_word.true c.read_mesh.ensures
+pub returns-in-Some : goal.returns-in-Some
+returns-in-Some c = grind (arith, common_steps, command-mesh)
 
-pub returns-then-has_word-2 : goal.returns-then-has_word-2
-returns-then-has_word-2 c =
-    command-fault _ c.has_word.ensures c.if-has_word.false c.has_word-2.ensures c.if-has_word-2.true
-    c.read_fault.ensures
+pub returns-in-Some-after : goal.returns-in-Some-after
+returns-in-Some-after c = grind (arith, common_steps, command-fault)
 
-pub returns-then-has_word-3 : goal.returns-then-has_word-3
-returns-then-has_word-3 c =
-    command-send _ c.has_word.ensures c.if-has_word.false c.has_word-2.ensures c.if-has_word-2.false
-    c.has_word-3.ensures c.if-has_word-3.true c.read_send.ensures
+pub returns-in_ok-after : goal.returns-in_ok-after
+returns-in_ok-after c = grind (arith, common_steps, command-send)
 
-pub returns : goal.returns
-returns c =
-    command-none _ c.has_word.ensures c.if-has_word.false c.has_word-2.ensures c.if-has_word-2.false
-    c.has_word-3.ensures c.if-has_word-3.false
+pub returns-in_err-after : goal.returns-in_err-after
+returns-in_err-after c = grind (arith, common_steps, command-none)

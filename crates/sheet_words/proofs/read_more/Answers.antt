@@ -1,41 +1,29 @@
 -- A digit more leaves one fewer to read, and what is read from there is what is read from the start. Assumes nothing.
-use mathlib.Core.Path.{refl, sym, ◌∙◌}
-use native.Mathlib.Omega.{arith}
-use borrow.Author.Tests.{not-true, not-false}
-use Rattle.sheet_words.proofs.Digits.{digit-fits, room_small, room-more}
-use Rattle.sheet_words.proofs.Spelling.{more-full, more-end, more-other, more-digit}
+use Rattle.std.proofs.Common.{◌≡◌, ◌<◌, ◌∙◌, Some, arith, rules}
+use Rattle.std.proofs.lemmas.Grind.{common_steps}
+use Rattle.sheet_words.specs.Words.{more}
+use Rattle.sheet_words.specs.Reading.{digit}
+use Rattle.sheet_words.proofs.Digits.{more-none, more-digit, room_small, room-more}
 use Rattle.sheet_words.proofs.read_more.Goals as goal
 
-pub loop-k-init : goal.loop-k-init
-loop-k-init c = record { room = c.requires; rest = refl }
-
-pub returns-then-line-i : goal.returns-then-line-i
-returns-then-line-i c = more-end _ _ _ _ c.if-line-i.true ∙ c.loop-k.invariant.rest
-
-pub returns-then-not-is_digit : goal.returns-then-not-is_digit
-returns-then-not-is_digit c =
-    let none = sym c.is_digit.ensures ∙ not-true _ c.if-not-is_digit.true-raw in
-    more-other _ _ _ c.if-line-i.false _ none ∙ c.loop-k.invariant.rest
+pub returns-in_default : goal.returns-in_default
+returns-in_default c = grind (arith, common_steps, more-none)
 
 pub overflow_mul-value : goal.overflow_mul-value
-overflow_mul-value c = omega (arith, room_small _ _ c.loop-k.invariant.room)
-
-pub digit-requires : goal.digit-requires
-digit-requires c = sym c.is_digit.ensures ∙ not-false _ c.if-not-is_digit.false-raw
+overflow_mul-value c = omega (arith, room_small _ _ c.loop.invariant.room)
 
 pub overflow_add-value : goal.overflow_add-value
-overflow_add-value c =
-    let one = digit-fits _ (sym c.is_digit.ensures ∙ not-false _ c.if-not-is_digit.false-raw) in
-    omega (arith, room_small _ _ c.loop-k.invariant.room)
+overflow_add-value c = grind (arith, common_steps, room_small _ _ c.loop.invariant.room)
 
-pub loop-k-preserved : goal.loop-k-preserved
-loop-k-preserved c =
-    let left = c.loop-k.invariant in
-    let one = sym c.is_digit.ensures ∙ not-false _ c.if-not-is_digit.false-raw in
+pub loop-preserved : goal.loop-preserved
+loop-preserved c =
+    let small : c.in-Some.digit < 10 = grind (arith, common_steps) in
+    let one : digit c.loop.rest.now ≡ Some (c.in-Some.digit, c.in-Some.next.now) = grind (arith, common_steps) in
     record {
-      room = room-more _ _ _ left.room (λ e. omega arith) (omega (arith, digit-fits _ one));
-      rest = more-digit _ _ _ c.if-line-i.false _ (λ e. omega arith) one c.digit.ensures refl ∙ left.rest;
+      room = room-more _ _ _ _ (omega arith) c.loop.invariant.room small;
+      rest = more-digit _ _ _ _ _ _ (omega arith) one ∙ c.loop.invariant.rest;
     }
 
 pub returns : goal.returns
-returns c = more-full _ _ _ _ (omega arith) ∙ c.loop-k.invariant.rest
+unfolding more
+returns c = search rules

@@ -1,9 +1,9 @@
-use Rattle.sheet_words.specs.Reading.{more_at}
-use Rattle.sheet_words.proofs.Spelling.{Left}
+use Rattle.std.proofs.Common.{◌≡◌, ◌+◌, ◌-◌, ◌*◌, ◌^◌, ◌≤◌}
+use Rattle.sheet_words.specs.Words.{more}
 use Rattle.sheet_words.proofs.read_more.Given as goal
 
-abbrev pub invariant-loop-k : goal.invariant-loop-k
-invariant-loop-k l = Left l.line (more_at l.left l.n l.line l.at) l.k l.value l.i
-
-abbrev pub decreases-loop-k : goal.decreases-loop-k
-decreases-loop-k l = l.k
+abbrev pub invariant-loop : goal.invariant-loop
+invariant-loop l = record {
+  room : (l.value + 1) * 10 ^ (l.left - l.counter) ≤ 1000;
+  rest : more (l.left - l.counter) l.value l.rest ≡ more l.left l.n l.text;
+}
