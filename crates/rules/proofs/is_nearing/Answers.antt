@@ -1,6 +1,5 @@
 -- The last hop is compared with the way to the destination's row. Assumes nothing.
-use mathlib.Core.Path.{refl}
-use mathlib.Core.List.{[]}
+use Rattle.std.proofs.Common.{refl, []}
 use Rattle.mesh.specs.declared.Network.TheVariants.{First}
 use Rattle.mesh.specs.Mesh.{mesh}
 use Rattle.mesh.specs.Rules.{toward}
