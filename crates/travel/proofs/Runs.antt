@@ -1,25 +1,22 @@
 -- The hops of a leg: rule 2 where the packet is not stopped, rule 5 where the next node is free. Assumes nothing.
-use Rattle.std.specs.Prelude.{Option, Some}
-use mathlib.Core.Path.{◌≡◌, refl, sym, ◌∙◌}
-use mathlib.Core.Bool.{Bool, true, false, ◌&&◌, and-false}
-use mathlib.Core.List.{List}
-use Prim.Native.Nat.{ℕ, zero, suc, ◌+◌, ◌-◌, ◌≤◌, ◌<◌}
-use native.Mathlib.Decide.{dec_lt}
-use native.Mathlib.Omega.{arith}
-use borrow.Author.Tests.{lt-ltb, le-ltb, eqb-false}
-use lib.Dec.{eqb}
+use Rattle.std.proofs.Common.{◌≡◌, refl, sym, ◌∙◌, Bool, true, false, ◌&&◌, ℕ, zero, suc, ◌+◌, ◌-◌, ◌≤◌, ◌<◌, Option, Some, arith}
+use Rattle.std.specs.Int.{abs_diff}
+use Rattle.std.proofs.Math.Bool.{and-false}
+use Rattle.std.proofs.Math.Decide.{dec_lt}
+use Rattle.std.proofs.Math.Dec.{eqb}
+use Rattle.std.proofs.lemmas.Bool.{lt-ltb, le-ltb, eqb-false}
 use Rattle.mesh.specs.declared.Heading.{Heading}
 use Rattle.mesh.specs.declared.Heading.TheVariants.{North as N, South as S, West as W}
 use Rattle.mesh.specs.declared.Network.{Network}
 use Rattle.mesh.specs.declared.Packet.{Packet}
-use Rattle.mesh.specs.Mesh.{Mesh, mesh}
+use Rattle.mesh.specs.Mesh.{Mesh, place}
 use Rattle.mesh.specs.Nodes.{bad}
 use Rattle.mesh.specs.Rules.{Trip, blocked, side, toward, own, stopped, again, in_row, nearing, other_row, hop}
 use Rattle.mesh.specs.Hops.{moved, trip_of, packet_at, is_there, moved_packet}
-use Rattle.mesh.specs.Walk.{hop_at, distance}
+use Rattle.mesh.specs.Walk.{hop_at}
 use Rattle.mesh.specs.Moving.{hop_from}
 use Rattle.mesh.proofs.Bools.{and_right}
-use Rattle.nodes.specs.Sized.{OnMesh}
+use Rattle.nodes.specs.Sized.{Sized, OnMesh}
 use Rattle.hops.specs.Moved.{row_by, column_by, moved_by, Lands, Reaches, Free}
 use Rattle.hops.proofs.Ways.{row-none, column-none, row_next, column-next, row-add, column-add, ahead-free, ahead-bad, reaches-lands, reaches-on}
 use Rattle.rules.specs.Rows.{in_its_row, nears_row}
@@ -93,10 +90,16 @@ hop-nearing t h r c is-h off free =
           rw (← s, off, e, free')
     ]
 
-module _ (network : Network) {columns rows : ℕ} {marks : List ℕ} {p : Packet} (g : BothOnMesh columns rows marks p) where
+-- at a stop in the destination's row
+pub leaves-row : (network : Network) (w : Mesh) {p : Packet} → in_its_row p ≡ true → is_there p ≡ false → {h : Heading} → h ≡ again p.last →
+    stopped (trip_of network w p) p.place.row.0 p.place.column.0 ≡ true → Runs network w h 1 p
+unfolding in_its_row hop_from hop_at hop in_row
+leaves-row network w {p} on away is-h stop = runs-one network w _ p away (rw (on, stop) is-h)
+
+module _ (network : Network) {w : Mesh} {p : Packet} (g : BothOnMesh w p) (sized : Sized w.columns w.rows w.map) where
   -- the trip, and where the packet is
   abbrev t : Trip
-  t = trip_of network (mesh columns rows marks) p
+  t = trip_of network w p
 
   abbrev r : ℕ
   r = p.place.row.0
@@ -105,10 +108,10 @@ module _ (network : Network) {columns rows : ℕ} {marks : List ℕ} {p : Packet
   c = p.place.column.0
 
   -- in the destination's row, n columns from it, of which x are free
-  module _ (on : in_its_row p ≡ true) {n : ℕ} (is-n : n ≡ distance c p.destination.column.0) {s : Heading}
+  module _ (on : in_its_row p ≡ true) {n : ℕ} (is-n : n ≡ abs_diff c p.destination.column.0) {s : Heading}
       (is-s : s ≡ side t c) where
-    pub row-reaches : Reaches columns rows s n r c
-    row-reaches = rw is-s (side-reaches t c (omega arith) r g.here.row g.here.column g.there.column g.here.sized.few-columns)
+    pub row-reaches : Reaches w.columns w.rows s n r c
+    row-reaches = rw is-s (side-reaches t c (omega arith) r g.here.row g.here.column g.there.column sized.few-columns)
 
     way : (i : ℕ) → i < n →
         (side t (column_by s i c) ≡ s) × (eqb (column_by s i c) p.destination.column.0 ≡ false)
@@ -116,7 +119,7 @@ module _ (network : Network) {columns rows : ℕ} {marks : List ℕ} {p : Packet
 
     row-runs : {k : ℕ} → k ≤ n →
         ((i : ℕ) → i < k → stopped t (row_by s i r) (column_by s i c) ≡ false) →
-        Runs network (mesh columns rows marks) s k p
+        Runs network w s k p
     unfolding is_there hop_from hop_at in_its_row
     row-runs {k} most free =
         let stays : (i : ℕ) → row_by s i r ≡ r = λ i. rw is-s (side-row t c i r) in
@@ -125,28 +128,28 @@ module _ (network : Network) {columns rows : ℕ} {marks : List ℕ} {p : Packet
           hops = λ i less. rw (after_is i s p) (hop-in-row t _ _ _ (rw (stays i) on) (free i less) (way i (omega arith)).0);
         }
 
-    module _ {x : ℕ} (f : Free (bad (mesh columns rows marks)) s n r c x) where
+    module _ {x : ℕ} (f : Free (bad w) s n r c x) where
       before : (i : ℕ) → i + 2 ≤ x →
           stopped t (row_by s i r) (column_by s i c) ≡ false
       before i le = open-before t i f le (way i (omega (arith, f.most))).0
 
       pub row-lands : Lands s (x - 1) r c
-      row-lands = reaches-lands row-reaches (omega (arith, f.most)) g.here.sized.few-columns g.here.sized.few-rows
+      row-lands = reaches-lands row-reaches sized (omega (arith, f.most))
 
-      pub row_on : OnMesh columns rows marks (row_by s (x - 1) r) (column_by s (x - 1) c)
+      pub row_on : OnMesh w (place (row_by s (x - 1) r) (column_by s (x - 1) c))
       row_on =
           let on = reaches-on s row-reaches (x - 1) (omega (arith, f.most)) in
-          record { sized = g.here.sized; row = on.0; column = on.1 }
+          record { row = on.0; column = on.1 }
 
       -- the first node that way is bad
-      pub unstopped-none : is_there p ≡ false → x ≡ 0 → Unstopped network (mesh columns rows marks) s 0 p
-      unfolding stopped blocked is_there in_its_row distance
+      pub unstopped-none : is_there p ≡ false → x ≡ 0 → Unstopped network w s 0 p
+      unfolding stopped blocked is_there in_its_row
       unstopped-none away none =
           let off = eqb-false c p.destination.column.0 (and_right (eqb r p.destination.row.0) (eqb c p.destination.column.0) on away) in
           let some : 0 < n = elim (dec_lt 0 n) [ yes h ↦ h | no h ↦ absurd (off (omega arith)) ] in
           let next = rw none at (f.ends (omega arith)) in
-          let stop = ahead-bad (bad (mesh columns rows marks)) s (λ e. omega (arith, row-reaches.south e)) (λ e. omega (arith, row-reaches.west e)) next in
-          record { runs = runs_none network (mesh columns rows marks) s p; stops = λ e. rw (← is-s, stop) }
+          let stop = ahead-bad (bad w) s (λ e. omega (arith, row-reaches.south e)) (λ e. omega (arith, row-reaches.west e)) next in
+          record { runs = runs_none network w s p; stops = λ e. rw (← is-s, stop) }
 
       -- at the last free node but one only the second node may stop the packet
       module _ (some : 1 ≤ x) {y : Bool} (second : y ≡ own t s (column_by s (x - 1) c) &&
@@ -156,35 +159,28 @@ module _ (network : Network) {columns rows : ℕ} {marks : List ℕ} {p : Packet
         is-stopped =
             let here = x - 1 in
             let on-side = (way here (omega (arith, f.most))).0 in
-            let next-free = ahead-free (bad (mesh columns rows marks)) s 1 (row_by s here r) (column_by s here c) (rw (row-add s here 1 r, column-add s here 1 c) (f.free (here + 1) (omega arith) (omega arith))) in
+            let next-free = ahead-free (bad w) s 1 (row_by s here r) (column_by s here c) (rw (row-add s here 1 r, column-add s here 1 c) (f.free (here + 1) (omega arith) (omega arith))) in
             stopped-second t _ _ (sym on-side) (sym next-free) refl second
 
-        pub unstopped-before : y ≡ true → Unstopped network (mesh columns rows marks) s (x - 1) p
+        pub unstopped-before : y ≡ true → Unstopped network w s (x - 1) p
         unstopped-before stop =
             record {
               runs = row-runs (omega (arith, f.most)) (λ i less. before i (omega arith));
               stops = λ e. rw (e, row-none s r, column-none s c) at (sym is-stopped ∙ stop);
             }
 
-        pub unstopped-all : y ≡ false → Unstopped network (mesh columns rows marks) s x p
+        pub unstopped-all : y ≡ false → Unstopped network w s x p
         unstopped-all last =
             record {
               runs = row-runs f.most (λ i less. elim (dec_lt (i + 1) x) [ yes h ↦ before i (omega arith) | no h ↦ (let e : i ≡ x - 1 = omega arith in rw e (sym is-stopped ∙ last)) ]);
               stops = λ e. absurd (omega arith);
             }
 
-  -- at a stop in the destination's row
-  pub leaves-row : in_its_row p ≡ true → is_there p ≡ false → {h : Heading} → h ≡ again p.last →
-      stopped t r c ≡ true →
-      Runs network (mesh columns rows marks) h 1 p
-  unfolding in_its_row hop_from hop_at hop in_row
-  leaves-row on away is-h stop = runs-one network (mesh columns rows marks) _ p away (rw (on, stop) is-h)
-
   -- in another row, n rows from the destination's, of which x are free
-  module _ (nears : nears_row p ≡ true) {n : ℕ} (is-n : n ≡ distance r p.destination.row.0) {h : Heading}
+  module _ (nears : nears_row p ≡ true) {n : ℕ} (is-n : n ≡ abs_diff r p.destination.row.0) {h : Heading}
       (is-h : h ≡ toward t r) where
-    pub column-reaches : Reaches columns rows h n r c
-    column-reaches = rw is-h (toward-reaches t r (omega arith) c g.here.row g.here.column g.there.row g.here.sized.few-rows)
+    pub column-reaches : Reaches w.columns w.rows h n r c
+    column-reaches = rw is-h (toward-reaches t r (omega arith) c g.here.row g.here.column g.there.row sized.few-rows)
 
     onward : (i : ℕ) → i < n →
         (toward t (row_by h i r) ≡ h) × (eqb (row_by h i r) p.destination.row.0 ≡ false)
@@ -194,25 +190,25 @@ module _ (network : Network) {columns rows : ℕ} {marks : List ℕ} {p : Packet
     unfolding nears_row toward
     was = last_made p.last h (rw is-h nears)
 
-    pub column-runs : {x : ℕ} → Free (bad (mesh columns rows marks)) h n r c x →
-        Runs network (mesh columns rows marks) h x p
+    pub column-runs : {x : ℕ} → Free (bad w) h n r c x →
+        Runs network w h x p
     unfolding is_there hop_from hop_at blocked
     column-runs {x} f =
         record {
           away = λ i less. rw (after_is i h p, (onward i (omega (arith, f.most))).1);
           hops = λ i less.
-              let next = ahead-free (bad (mesh columns rows marks)) h 1 (row_by h i r) (column_by h i c) (rw (row-add h i 1 r, column-add h i 1 c) (f.free (i + 1) (omega arith) (omega arith))) in
+              let next = ahead-free (bad w) h 1 (row_by h i r) (column_by h i c) (rw (row-add h i 1 r, column-add h i 1 c) (f.free (i + 1) (omega arith) (omega arith))) in
               let e = onward i (omega (arith, f.most)) in
               rw (after_is i h p, was, last-stays i h) (hop-nearing t h _ _ e.0 e.1 next);
         }
 
     -- before a block
-    pub leaves-column : in_its_row p ≡ false → Free (bad (mesh columns rows marks)) h n r c 0 →
-        Runs network (mesh columns rows marks) W 1 p
-    unfolding in_its_row is_there hop_from hop_at hop nearing blocked distance
+    pub leaves-column : in_its_row p ≡ false → Free (bad w) h n r c 0 →
+        Runs network w W 1 p
+    unfolding in_its_row is_there hop_from hop_at hop nearing blocked
     leaves-column off f =
         let apart = eqb-false r p.destination.row.0 off in
         let some : 0 < n = elim (dec_lt 0 n) [ yes h ↦ h | no h ↦ absurd (apart (omega arith)) ] in
-        let block = ahead-bad (bad (mesh columns rows marks)) h (λ e. omega (arith, column-reaches.south e)) (λ e. omega (arith, column-reaches.west e)) (f.ends some) in
-        runs-one network (mesh columns rows marks) W p (rw off)
+        let block = ahead-bad (bad w) h (λ e. omega (arith, column-reaches.south e)) (λ e. omega (arith, column-reaches.west e)) (f.ends some) in
+        runs-one network w W p (rw off)
         (rw off (near_again t _ _ _ is-h (rw (← is-h, was) (last-self h)) (rw block)))

@@ -1,16 +1,12 @@
 -- The way to the destination's column and to its row: its heading stays, and all of it is on the mesh. Assumes nothing.
-use mathlib.Core.Path.{◌≡◌, refl}
-use mathlib.Core.Logic.{inl, inr}
-use mathlib.Core.Bool.{false, cond}
-use Prim.Native.Nat.{ℕ, ◌+◌, ◌-◌, ◌≤◌, ◌<◌}
-use native.Mathlib.Decide.{dec_lt}
-use native.Mathlib.Omega.{arith}
-use borrow.Author.Tests.{lt-ltb, le-ltb, ne_eqb}
-use lib.Dec.{ltb, eqb}
+use Rattle.std.proofs.Common.{◌≡◌, refl, inl, inr, false, cond, ℕ, ◌+◌, ◌-◌, ◌≤◌, ◌<◌, arith}
+use Rattle.std.specs.Int.{abs_diff}
+use Rattle.std.proofs.Math.Decide.{dec_lt}
+use Rattle.std.proofs.Math.Dec.{ltb, eqb}
+use Rattle.std.proofs.lemmas.Bool.{lt-ltb, le-ltb, ne_eqb}
 use Rattle.mesh.specs.declared.Heading.{Heading}
 use Rattle.mesh.specs.declared.Heading.TheVariants.{East as E, North as N, South as S, West as W}
 use Rattle.mesh.specs.Rules.{Trip, side, toward}
-use Rattle.mesh.specs.Walk.{distance}
 use Rattle.mesh.proofs.Bools.{value}
 use Rattle.hops.specs.Moved.{row_by, column_by, Reaches}
 
@@ -39,8 +35,8 @@ nearer : ℕ → ℕ → ℕ → ℕ
 nearer a b i = cond (ltb a b) (a + i) (a - i)
 
 -- before b is reached it is still that way, and not reached
-nearer-stays : (a b : ℕ) {n : ℕ} → n ≤ distance a b → (i : ℕ) → i < n → (ltb (nearer a b i) b ≡ ltb a b) × (eqb (nearer a b i) b ≡ false)
-unfolding nearer distance
+nearer-stays : (a b : ℕ) {n : ℕ} → n ≤ abs_diff a b → (i : ℕ) → i < n → (ltb (nearer a b i) b ≡ ltb a b) × (eqb (nearer a b i) b ≡ false)
+unfolding nearer
 nearer-stays a b most i less =
     elim (dec_lt a b) [
       | yes h ↦ rw (lt-ltb a b h) (lt-ltb (a + i) b (omega arith), ne_eqb (a + i) b (λ e. omega arith))
@@ -55,7 +51,7 @@ toward-nearer : (t : Trip) (r i : ℕ) → row_by (toward t r) i r ≡ nearer r 
 unfolding toward row_by nearer
 toward-nearer t r i = elim (value (ltb r t.R)) [ inl e ↦ rw e | inr e ↦ rw e ]
 
-module _ (t : Trip) (c : ℕ) {n : ℕ} (most : n ≤ distance c t.C) where
+module _ (t : Trip) (c : ℕ) {n : ℕ} (most : n ≤ abs_diff c t.C) where
   -- i hops on the destination's column is still to that side
   pub side-stays : (i : ℕ) → i < n → (side t (column_by (side t c) i c) ≡ side t c) × (eqb (column_by (side t c) i c) t.C ≡ false)
   unfolding side
@@ -64,7 +60,7 @@ module _ (t : Trip) (c : ℕ) {n : ℕ} (most : n ≤ distance c t.C) where
       rw (side-nearer t c i, still) (refl, apart)
 
   pub side-reaches : {columns rows : ℕ} (r : ℕ) → r < rows → c < columns → t.C < columns → columns ≤ 64 → Reaches columns rows (side t c) n r c
-  unfolding side distance Fits
+  unfolding side Fits
   side-reaches r p q d few =
       elim (dec_lt c t.C) [
         | yes h ↦ rw (lt-ltb c t.C h) (reaches E p q (omega arith) (omega arith))
@@ -75,7 +71,7 @@ pub side-row : (t : Trip) (c i r : ℕ) → row_by (side t c) i r ≡ r
 unfolding side row_by
 side-row t c i r = elim (dec_lt c t.C) [ yes h ↦ rw (lt-ltb c t.C h) | no h ↦ rw (le-ltb c t.C (omega arith)) ]
 
-module _ (t : Trip) (r : ℕ) {n : ℕ} (most : n ≤ distance r t.R) where
+module _ (t : Trip) (r : ℕ) {n : ℕ} (most : n ≤ abs_diff r t.R) where
   -- and its row still that way
   pub toward-stays : (i : ℕ) → i < n → (toward t (row_by (toward t r) i r) ≡ toward t r) × (eqb (row_by (toward t r) i r) t.R ≡ false)
   unfolding toward
@@ -84,7 +80,7 @@ module _ (t : Trip) (r : ℕ) {n : ℕ} (most : n ≤ distance r t.R) where
       rw (toward-nearer t r i, still) (refl, apart)
 
   pub toward-reaches : {columns rows : ℕ} (c : ℕ) → r < rows → c < columns → t.R < rows → rows ≤ 64 → Reaches columns rows (toward t r) n r c
-  unfolding toward distance Fits
+  unfolding toward Fits
   toward-reaches c p q d few =
       elim (dec_lt r t.R) [
         | yes h ↦ rw (lt-ltb r t.R h) (reaches N p q (omega arith) (omega arith))

@@ -1,5 +1,5 @@
 -- What a leg is: hops by the rules that are all the same. Assumes nothing.
-use Rattle.std.specs.Prelude.{◌≡◌, Bool, true, false, ◌||◌, List, ℕ, zero, suc, ◌<◌}
+use Rattle.std.specs.Prelude.{◌≡◌, Bool, true, false, ◌||◌, ℕ, zero, suc, ◌<◌}
 use Rattle.mesh.specs.declared.Heading.{Heading}
 use Rattle.mesh.specs.declared.Network.{Network}
 use Rattle.mesh.specs.declared.Packet.{Packet}
@@ -15,9 +15,9 @@ abbrev pub goes_straight : Packet → Bool
 goes_straight p = in_its_row p || nears_row p
 
 -- the packet and its destination are on the mesh
-pub record BothOnMesh (columns rows : ℕ) (marks : List ℕ) (p : Packet) : Type 0 where
-  pub here : OnMesh columns rows marks p.place.row.0 p.place.column.0
-  pub there : OnMesh columns rows marks p.destination.row.0 p.destination.column.0
+pub record BothOnMesh (w : Mesh) (p : Packet) : Type 0 where
+  pub here : OnMesh w p.place
+  pub there : OnMesh w p.destination
 
 -- the record after i hops that way, one after another
 unfoldable pub after : ℕ → Heading → Packet → Packet

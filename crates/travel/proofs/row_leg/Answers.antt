@@ -1,6 +1,5 @@
 -- The hops before a stop are a leg; where there is none, the hop that the stop asks for is one. Assumes nothing.
-use mathlib.Core.Path.{refl}
-use native.Mathlib.Omega.{arith}
+use Rattle.std.proofs.Common.{refl, arith}
 use Rattle.travel.proofs.Runs.{leaves-row}
 use Rattle.travel.proofs.row_leg.Goals as goal
 
@@ -12,7 +11,7 @@ count_unstopped-hops-requires c =
 pub returns-then-hops-gt0 : goal.returns-then-hops-gt0
 returns-then-hops-gt0 c = (omega arith, c.count_unstopped-hops.ensures.runs)
 
-pub returns : goal.returns
-returns c =
+pub returns-else-hops-gt0 : goal.returns-else-hops-gt0
+returns-else-hops-gt0 c =
     let pre = c.requires in
-    (omega arith, leaves-row _ pre.0 pre.1 pre.2 c.again.ensures (c.count_unstopped-hops.ensures.stops (omega arith)))
+    (omega arith, leaves-row _ _ pre.1 pre.2 c.again.ensures (c.count_unstopped-hops.ensures.stops (omega arith)))
