@@ -19,50 +19,9 @@ use Rattle.mesh.proofs.Bools.{value}
 use Rattle.mesh.proofs.Tests.{numbered, told-refused, told-clear, clear_next}
 use Rattle.mesh.proofs.Requests.{place-numbered, trip-numbered}
 
-not-less : (m n : ℕ) → leb n m ≡ not (ltb m n)
-not-less m n =
-    elim (value (ltb m n)) [
-      | inl e ↦ rw e (lt-leb n m (ltb-true m n e))
-      | inr e ↦ rw e (le-leb n m (ltb-false m n e))
-    ]
-
-module _ (columns rows : ℕ) (p : Place) where
-  pub off-north : rows ≤ p.row.0 → (marks : List ℕ) → true ≡ off_mesh (mesh columns rows marks) p
-  unfolding off_mesh on_mesh
-  off-north h marks = rw (le-ltb _ rows h)
-
-  pub off-east : p.row.0 < rows → (marks : List ℕ) → leb columns p.column.0 ≡ off_mesh (mesh columns rows marks) p
-  unfolding off_mesh on_mesh
-  off-east h marks = rw (lt-ltb _ rows h) (not-less p.column.0 columns)
-
--- a, b, e and f are the answers of the tests, in the order of the code
-module _ (w : Mesh) (s d : Place) {a : Bool} (is-a : a ≡ off_mesh w s) where
-  pub source-off : a ≡ true → 6 ≡ first (place_tests w s d)
-  unfolding place_tests first
-  source-off x = rw (← is-a, x)
-
-  module _ (no-a : a ≡ false) {b : Bool} (is_b : b ≡ off_mesh w d) where
-    pub destination-off : b ≡ true → 6 ≡ first (place_tests w s d)
-    unfolding place_tests first
-    destination-off x = rw (← is-a, no-a, ← is_b, x)
-
-    module _ (no-b : b ≡ false) {e : Bool} (is-e : e ≡ in_block w s) where
-      pub source_in : e ≡ true → 7 ≡ first (place_tests w s d)
-      unfolding place_tests first
-      source_in x = rw (← is-a, no-a, ← is_b, no-b, ← is-e, x)
-
-      module _ (no-e : e ≡ false) {f : Bool} (is_f : f ≡ in_block w d) where
-        pub destination-in : f ≡ true → 7 ≡ first (place_tests w s d)
-        unfolding place_tests first
-        destination-in x = rw (← is-a, no-a, ← is_b, no-b, ← is-e, no-e, ← is_f, x)
-
-        pub none-applies : f ≡ false → 0 ≡ first (place_tests w s d)
-        unfolding place_tests first
-        none-applies x = rw (← is-a, no-a, ← is_b, no-b, ← is-e, no-e, ← is_f, x)
-
 -- one test more after those that a check has made
 module _ (ts : List Test) (n : numbered ts ≡ true) (t : Test) {x : Result ⊤ Refusal} (told : checked_number x ≡ first ts) where
-  before-it : {why : Refusal} → x ≡ Err why → checked_number (Err why) ≡ first (ts ++ (t ∷ []))
+  before-it : {why : Refusal} → x ≡ Err why → checked_number {A = ⊤} (Err why) ≡ first (ts ++ (t ∷ []))
   before-it e = sym (told-refused ts (t ∷ []) told e)
 
   it-decides : x ≡ Ok tt → cond t.holds t.number 0 ≡ first (ts ++ (t ∷ []))
@@ -71,7 +30,7 @@ module _ (ts : List Test) (n : numbered ts ≡ true) (t : Test) {x : Result ⊤ 
 
 module _ (w : Mesh) (s d : Place) {x : Result ⊤ Refusal} where
   module _ (told : checked_number x ≡ first (place_tests w s d)) where
-    pub place-first : {why : Refusal} → x ≡ Err why → checked_number (Err why) ≡ first (trip_tests w s d)
+    pub place-first : {why : Refusal} → x ≡ Err why → checked_number {A = ⊤} (Err why) ≡ first (trip_tests w s d)
     unfolding trip_tests
     place-first = before-it (place_tests w s d) (place-numbered w s d) (block_near_in_row w d gives 8) told
 
@@ -80,14 +39,14 @@ module _ (w : Mesh) (s d : Place) {x : Result ⊤ Refusal} where
       unfolding trip_tests
       near-decides = rw is-r (it-decides (place_tests w s d) (place-numbered w s d) (block_near_in_row w d gives 8) told e)
 
-      pub near-refused : r ≡ true → checked_number (Err BlockNearInRow) ≡ first (trip_tests w s d)
+      pub near-refused : r ≡ true → checked_number {A = ⊤} (Err BlockNearInRow) ≡ first (trip_tests w s d)
       near-refused f = rw (← near-decides, f)
 
-      pub near-clear : r ≡ false → checked_number Ok tt ≡ first (trip_tests w s d)
+      pub near-clear : r ≡ false → checked_number {A = ⊤} (Ok tt) ≡ first (trip_tests w s d)
       near-clear f = rw (← near-decides, f)
 
   module _ (n : Network) (told : checked_number x ≡ first (trip_tests w s d)) where
-    pub trip-first : {why : Refusal} → x ≡ Err why → checked_number (Err why) ≡ first (request_tests n w s d)
+    pub trip-first : {why : Refusal} → x ≡ Err why → checked_number {A = ⊤} (Err why) ≡ first (request_tests n w s d)
     unfolding request_tests
     trip-first = before-it (trip_tests w s d) (trip-numbered w s d) (unserved n w s d gives 9) told
 
@@ -96,8 +55,8 @@ module _ (w : Mesh) (s d : Place) {x : Result ⊤ Refusal} where
       unfolding request_tests
       unserved-decides = rw is-u (it-decides (trip_tests w s d) (trip-numbered w s d) (unserved n w s d gives 9) told e)
 
-      pub unserved-refused : u ≡ true → checked_number (Err Unlawful) ≡ first (request_tests n w s d)
+      pub unserved-refused : u ≡ true → checked_number {A = ⊤} (Err Unlawful) ≡ first (request_tests n w s d)
       unserved-refused f = rw (← unserved-decides, f)
 
-      pub unserved-clear : u ≡ false → checked_number Ok tt ≡ first (request_tests n w s d)
+      pub unserved-clear : u ≡ false → checked_number {A = ⊤} (Ok tt) ≡ first (request_tests n w s d)
       unserved-clear f = rw (← unserved-decides, f)
