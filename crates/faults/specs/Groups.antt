@@ -1,5 +1,5 @@
 -- Faults of a map of which each is less than 3 from the next. Assumes nothing.
-use Rattle.std.specs.Prelude.{◌≡◌, Bool, true, false, ◌&&◌, List, ℕ, ◌+◌, ◌<◌, ltb, get_or}
+use Rattle.std.specs.Prelude.{◌≡◌, Bool, true, false, ◌&&◌, Option, None, Some, List, ℕ, ◌+◌, ◌<◌, ltb, get_or}
 use Rattle.mesh.specs.Nodes.{is_bad}
 
 -- there is a fault at index i, before index end
@@ -19,10 +19,10 @@ pub record NoneNear (map : List ℕ) (end i : ℕ) : Type 0 where
   pub one_on : fault_before map end (i + 1) ≡ false
   pub two-on : fault_before map end (i + 2) ≡ false
 
--- such a fault, or i where there is none
-pub data Near (map : List ℕ) (end i : ℕ) : ℕ → Type 0 where
-  same : NoneNear map end i → Near map end i i
-  next : {k : ℕ} → Next map end i k → Near map end i k
+-- such a fault, if there is one
+abbrev pub Near : List ℕ → ℕ → ℕ → Option ℕ → Type 0
+Near map end i None = NoneNear map end i
+Near map end i (Some k) = Next map end i k
 
 -- from one fault to the next, any number of times
 pub data Chain (map : List ℕ) (end i : ℕ) : ℕ → Type 0 where

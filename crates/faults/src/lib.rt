@@ -10,40 +10,30 @@ pub fn count_faults(map: &[u8]) -> u32
     requires { length map.now ≤ 4096 }
     ensures { result ≡ how_many 1 map.now }
 {
-    let mut n: u32 = 0;
-    let mut i = 0;
-    while i < map.len() {
-        if map[i] == 1 {
-            n += 1;
-        }
-        i += 1;
-    }
-    n
+    map.iter().map(|x| u32::from(*x == 1)).sum()
 }
 
 // Whether there is a fault at index i, before index end.
+#[tactic(auto, unfolding(crate::specs::Groups::fault_before, mesh::specs::Nodes::is_bad))]
 fn is_fault(map: &[u8], i: usize, end: usize) -> bool
     requires { end ≤ length map.now }
     ensures { result ≡ fault_before map.now end i }
 {
-    if end <= i {
-        return false;
-    }
-    map[i] != 0
+    i < end && map[i] != 0
 }
 
-// The next fault after index i, if it is less than 3 from it and before index end; else i.
-fn next_near(map: &[u8], i: usize, end: usize) -> usize
+// The next fault after index i, if it is less than 3 from it and before index end.
+fn next_near(map: &[u8], i: usize, end: usize) -> Option<usize>
     requires { (i < end) × (end ≤ length map.now) }
     ensures { Near map.now end i result }
 {
     if is_fault(map, i + 1, end) {
-        return i + 1;
+        Some(i + 1)
+    } else if is_fault(map, i + 2, end) {
+        Some(i + 2)
+    } else {
+        None
     }
-    if is_fault(map, i + 2, end) {
-        return i + 2;
-    }
-    i
 }
 
 // The last of the faults from index i on, before index end, of which each is less than 3 from the next.
@@ -52,10 +42,8 @@ pub fn group_end(map: &[u8], i: usize, end: usize) -> usize
     ensures { Group map.now end i result }
 {
     let mut last = i;
-    let mut next = next_near(map, last, end);
-    while last < next {
+    while let Some(next) = next_near(map, last, end) {
         last = next;
-        next = next_near(map, last, end);
     }
     last
 }
