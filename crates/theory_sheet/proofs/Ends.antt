@@ -1,10 +1,5 @@
 -- The end of a sheet, by what the reader holds: where the run is over nothing, of an unfinished line that it is bad. Assumes nothing.
-use mathlib.Core.Path.{◌≡◌, refl}
-use mathlib.Core.Bool.{true, false}
-use mathlib.Core.List.{List, [], ◌∷◌}
-use Prim.Native.Nat.{ℕ, ◌<◌}
-use native.Mathlib.Omega.{arith}
-use lib.ListN.{length}
+use Rattle.std.proofs.Common.{◌≡◌, refl, true, false, List, [], ◌∷◌, ℕ, ◌<◌, arith, length}
 use Rattle.sheet_prints.specs.Prints.{line, line_word}
 use Rattle.theory_sheet.specs.Sheet.{State, at_end}
 use Rattle.theory_sheet.specs.Reader.{Reader, last_line, finish}

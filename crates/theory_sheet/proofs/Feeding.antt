@@ -1,13 +1,6 @@
 -- Bytes fed in turn: what is fed after other bytes starts where they left the reader. Assumes nothing.
-use mathlib.Core.Path.{◌≡◌, refl}
-use mathlib.Core.Logic.{inl, inr}
-use mathlib.Core.Bool.{true, false}
-use mathlib.Core.List.{List, [], ◌∷◌, ◌++◌, append-nil, append_assoc}
-use Prim.Native.Nat.{ℕ, ◌+◌, ◌≤◌}
-use native.Mathlib.Omega.{arith}
-use borrow.Author.Tests.{eq-eqb, lt-leb, leb-true}
-use lib.Dec.{leb}
-use lib.ListN.{length, get_or, take, length-append}
+use Rattle.std.proofs.Common.{◌≡◌, refl, inl, inr, true, false, List, [], ◌∷◌, ◌++◌, append-nil, append_assoc, ℕ, ◌+◌, ◌≤◌, arith, leb, length, get_or, take, length-append}
+use Rattle.std.proofs.lemmas.Bool.{eq-eqb, lt-leb, leb-true}
 use Rattle.mesh.proofs.Bools.{value, true-false}
 use Rattle.sheet_words.specs.Words.{command_at}
 use Rattle.theory_sheet.specs.Sheet.{State, change, answering, command_step}

@@ -1,12 +1,6 @@
 -- The lines of a text begin with what stands before its first newline. Assumes nothing.
-use mathlib.Core.Path.{◌≡◌}
-use mathlib.Core.Bool.{true, false}
-use mathlib.Core.List.{List, [], ◌∷◌, ◌++◌}
-use Prim.Native.Nat.{ℕ, zero, suc, ◌≤◌, ◌<◌}
-use native.Mathlib.Omega.{arith}
-use borrow.Author.Tests.{ne_eqb}
-use lib.Dec.{eqb}
-use lib.ListN.{length, get_or, take}
+use Rattle.std.proofs.Common.{◌≡◌, true, false, List, [], ◌∷◌, ◌++◌, ℕ, zero, suc, ◌≤◌, ◌<◌, arith, eqb, length, get_or, take}
+use Rattle.std.proofs.lemmas.Bool.{ne_eqb}
 use Rattle.theory_sheet.specs.Sheet.{Line, before, lines_of}
 
 -- bytes without a newline

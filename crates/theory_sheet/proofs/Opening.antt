@@ -1,8 +1,5 @@
 -- Where a sheet is opened to its sends and the run goes on, its sends have begun. Assumes nothing.
-use mathlib.Core.Path.{◌≡◌, refl}
-use mathlib.Core.Logic.{inl, inr}
-use mathlib.Core.Bool.{false}
-use Prim.Native.Nat.{ℕ}
+use Rattle.std.proofs.Common.{◌≡◌, refl, inl, inr, false, ℕ}
 use Rattle.mesh.proofs.Bools.{value, true-false}
 use Rattle.theory_sheet.specs.declared.Phase.{Phase}
 use Rattle.theory_sheet.specs.declared.Phase.TheVariants.{Start, Faults, Sends}

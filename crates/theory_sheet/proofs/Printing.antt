@@ -1,16 +1,9 @@
 -- A reader that holds the bytes of an unfinished line prints what the definition does of those bytes and the rest: a newline makes them a line,
 -- and no line of more than 20 bytes is well-formed, so it need not be held. Assumes nothing.
-use mathlib.Core.Path.{◌≡◌, refl, ◌∙◌}
-use mathlib.Core.Logic.{inl, inr}
-use mathlib.Core.Bool.{Bool, true, false, cond}
-use mathlib.Core.List.{List, [], ◌∷◌, ◌++◌, append-nil, append_assoc}
-use Prim.Native.Nat.{ℕ, suc, ◌≤◌, ◌<◌}
-use native.Mathlib.Omega.{arith}
-use borrow.Author.Tests.{leb-true, leb-false}
-use lib.Dec.{leb, eqb}
-use lib.ListN.{length, length-append}
+use Rattle.std.proofs.Common.{◌≡◌, refl, ◌∙◌, inl, inr, Bool, true, false, cond, List, [], ◌∷◌, ◌++◌, append-nil, append_assoc, ℕ, suc, ◌≤◌, ◌<◌, arith, leb, eqb, length, length-append, Option, None}
+use Rattle.std.proofs.lemmas.Bool.{leb-true, leb-false}
 use Rattle.mesh.proofs.Bools.{value}
-use Rattle.sheet_words.specs.declared.Command.TheVariants.{Malformed}
+use Rattle.sheet_words.specs.declared.Command.{Command}
 use Rattle.sheet_words.specs.Words.{command_at}
 use Rattle.sheet_words.proofs.Lengths.{long-malformed}
 use Rattle.sheet_prints.specs.Prints.{line, line_word}
@@ -40,11 +33,11 @@ unfolding finish
 after_line_lem p n t true xs e = rw (rests (record { number = n; state = t; held = []; over = true }) xs refl)
 after_line_lem p n t false xs e = rw e
 
-long-command : (n : ℕ) (l : Line) → 20 < length l.text → command_of n l ≡ Malformed
+long-command : (n : ℕ) (l : Line) → 20 < length l.text → command_of n l ≡ None
 unfolding command_of command_at
 long-command n l h = rw (long-malformed l.text h, either (leb n 65535), either l.ended)
   where
-    either : (b : Bool) → cond b Malformed Malformed ≡ Malformed
+    either : (b : Bool) → cond {A = Option Command} b None None ≡ None
     either true = refl
     either false = refl
 
@@ -58,7 +51,7 @@ long-answers m n t [] g h = absurd (omega (arith, g, h))
 long-answers m n t (l ∷ ls) g h = rw (long-line n t l (omega (arith, g, h)), append-nil)
 
 -- after a bad line nothing is printed
-bad-over : (n : ℕ) (t : State) (xs : List ℕ) → line line_word n ≡ (after_line n t Malformed).printed ++ read_on (after_line n t Malformed).next xs
+bad-over : (n : ℕ) (t : State) (xs : List ℕ) → line line_word n ≡ (after_line n t None).printed ++ read_on (after_line n t None).next xs
 unfolding command_step answering change finish
 bad-over n t xs = rw (rests (record { number = suc n; state = t; held = []; over = true }) xs refl, append-nil)
 

@@ -1,13 +1,6 @@
 -- Each byte brings the run nearer to its end: it has at most 65,536 lines, of each of which at most 20 bytes and a newline are taken. Assumes nothing.
-use mathlib.Core.Path.{◌≡◌, refl}
-use mathlib.Core.Logic.{inl, inr}
-use mathlib.Core.Bool.{true, false}
-use mathlib.Core.List.{List, [], ◌∷◌, ◌++◌}
-use Prim.Native.Nat.{ℕ, ◌+◌, ◌-◌, ◌*◌, ◌≤◌, ◌<◌}
-use native.Mathlib.Omega.{arith}
-use borrow.Author.Tests.{leb-false}
-use lib.Dec.{leb, eqb}
-use lib.ListN.{length, length-append}
+use Rattle.std.proofs.Common.{◌≡◌, refl, inl, inr, true, false, List, [], ◌∷◌, ◌++◌, ℕ, ◌+◌, ◌-◌, ◌*◌, ◌≤◌, ◌<◌, arith, leb, eqb, length, length-append}
+use Rattle.std.proofs.lemmas.Bool.{leb-false}
 use Rattle.mesh.proofs.Bools.{value, true-false}
 use Rattle.theory_sheet.specs.Sheet.{change, answering, command_step}
 use Rattle.theory_sheet.specs.Reader.{Reader, begun, feed, feed_all}

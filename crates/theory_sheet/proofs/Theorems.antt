@@ -1,10 +1,5 @@
 -- What is shown of reading a sheet byte by byte. Each theorem is proved in the file that its proof cites. Assumes nothing.
-use mathlib.Core.Path.{◌≡◌}
-use mathlib.Core.Bool.{true}
-use mathlib.Core.List.{List, [], ◌++◌}
-use Prim.Native.Nat.{ℕ, ◌≤◌}
-use native.Mathlib.Omega.{arith}
-use lib.ListN.{length}
+use Rattle.std.proofs.Common.{◌≡◌, true, List, [], ◌++◌, ℕ, ◌≤◌, arith, length}
 use Rattle.theory_sheet.specs.Sheet.{nothing, sheet}
 use Rattle.theory_sheet.specs.Reader.{Reader, begun, feed_all, finish}
 use Rattle.theory_sheet.proofs.Lines.{Unbroken}

@@ -1,8 +1,7 @@
 -- A sheet read byte by byte, of which never more than a line of 20 bytes is held. Assumes nothing.
-use Rattle.std.specs.Prelude.{Bool, false, cond, List, [], ◌∷◌, ◌++◌, ℕ, suc, leb, eqb, length}
+use Rattle.std.specs.Prelude.{Bool, false, cond, List, [], ◌∷◌, ◌++◌, ℕ, suc, leb, eqb, length, Option, None}
 use Rattle.sheet_prints.specs.Prints.{line, line_word}
 use Rattle.sheet_words.specs.declared.Command.{Command}
-use Rattle.sheet_words.specs.declared.Command.TheVariants.{Malformed}
 use Rattle.sheet_words.specs.Words.{command_at}
 use Rattle.theory_sheet.specs.Sheet.{State, nothing, command_step, at_end}
 
@@ -26,7 +25,7 @@ pub record Fed : Type 0 where
   pub next : Reader
 
 -- after line n, which says c
-abbrev pub after_line : ℕ → State → Command → Fed
+abbrev pub after_line : ℕ → State → Option Command → Fed
 after_line n t c =
     record {
       printed = (command_step n t c).printed;
@@ -45,7 +44,7 @@ holding r x =
 unfoldable pub feed : Reader → ℕ → Fed
 feed r x =
     cond (eqb x 10) (after_line r.number r.state (command_at r.number r.held))
-    (cond (leb 20 (length r.held)) (after_line r.number r.state Malformed) (holding r x))
+    (cond (leb 20 (length r.held)) (after_line r.number r.state None) (holding r x))
 
 -- bytes in turn, until the run is over
 unfoldable pub feed_all : Reader → List ℕ → Fed

@@ -1,9 +1,9 @@
 -- What is printed for a sheet (document 01, "The sheet program"). Assumes nothing.
-use Rattle.std.specs.Prelude.{Bool, true, false, cond, List, [], ◌∷◌, ◌++◌, ℕ, zero, suc, ◌+◌, ◌*◌, eqb, length, set, replicate}
+use Rattle.std.specs.Prelude.{Bool, true, false, cond, List, [], ◌∷◌, ◌++◌, ℕ, zero, suc, ◌+◌, ◌*◌, eqb, length, set, replicate, Option, None, Some}
 use Rattle.theory_sheet.specs.declared.Phase.{Phase}
 use Rattle.theory_sheet.specs.declared.Phase.TheVariants.{Start, Faults, Sends}
 use Rattle.sheet_words.specs.declared.Command.{Command}
-use Rattle.sheet_words.specs.declared.Command.TheVariants.{Mesh, Fault, Send, Malformed}
+use Rattle.sheet_words.specs.declared.Command.TheVariants.{Mesh, Fault, Send}
 use Rattle.mesh.specs.declared.Place.{Place}
 use Rattle.mesh.specs.declared.Network.TheVariants.{First}
 use Rattle.mesh.specs.Mesh.{Mesh as MeshOf, mesh}
@@ -105,11 +105,11 @@ opening Faults n t = cond (is_misplaced t) (ending (line no_word 5) t) (saying (
 opening Sends n t = saying [] t
 
 -- what line n says, before the answer to a send
-unfoldable pub change : ℕ → State → Command → Step
-change n t (Mesh columns rows) = mesh_line t.phase n t columns rows
-change n t (Fault p) = fault_line t.phase n t p
-change n t (Send s d) = opening t.phase n t
-change n t Malformed = bad_line n t
+unfoldable pub change : ℕ → State → Option Command → Step
+change n t (Some (Mesh columns rows)) = mesh_line t.phase n t columns rows
+change n t (Some (Fault p)) = fault_line t.phase n t p
+change n t (Some (Send s d)) = opening t.phase n t
+change n t None = bad_line n t
 
 -- no NUMBER, or ok HOPS LETTERS
 unfoldable pub answer_of : ℕ → List ℕ → List ℕ
@@ -121,22 +121,22 @@ unfoldable pub send_answer : MeshOf → Place → Place → List ℕ
 send_answer w s d = answer_of (first (request_tests First w s d)) (letters (hops_of First w s d))
 
 -- only sends are answered
-unfoldable pub answer_to : MeshOf → Command → List ℕ
-answer_to w (Mesh columns rows) = []
-answer_to w (Fault p) = []
-answer_to w (Send s d) = send_answer w s d
-answer_to w Malformed = []
+unfoldable pub answer_to : MeshOf → Option Command → List ℕ
+answer_to w (Some (Mesh columns rows)) = []
+answer_to w (Some (Fault p)) = []
+answer_to w (Some (Send s d)) = send_answer w s d
+answer_to w None = []
 
 -- what a line says, and its answer unless it ends the run
-unfoldable pub answering : Command → Step → Step
+unfoldable pub answering : Option Command → Step → Step
 answering c x = let on = saying (x.printed ++ answer_to (mesh_of x.next) c) x.next in cond x.ends x on
 
-unfoldable pub command_step : ℕ → State → Command → Step
+unfoldable pub command_step : ℕ → State → Option Command → Step
 command_step n t c = answering c (change n t c)
 
 -- a line without its newline is malformed
-unfoldable pub command_of : ℕ → Line → Command
-command_of n l = cond l.ended (command_at n l.text) Malformed
+unfoldable pub command_of : ℕ → Line → Option Command
+command_of n l = cond l.ended (command_at n l.text) None
 
 unfoldable pub line_step : ℕ → State → Line → Step
 line_step n t l = command_step n t (command_of n l)
