@@ -1,67 +1,37 @@
 -- Reading a number group by group, from the byte that stands at an index. Assumes nothing.
-use mathlib.Core.Path.{◌≡◌, refl, sym, ◌∙◌}
-use mathlib.Core.List.{List, [], ◌∷◌}
-use Prim.Native.Nat.{ℕ, zero, suc, ◌+◌, ◌-◌, ◌*◌, ◌%◌, ◌≤◌, ◌<◌}
-use native.Mathlib.Numerals.{add-one}
-use native.Mathlib.Omega.{arith}
+use Rattle.std.proofs.Common.{◌≡◌, ℕ, zero, suc, ◌+◌, ◌-◌, ◌*◌, ◌%◌, ◌≤◌, ◌<◌, List, [], ◌∷◌, length, get_or, drop, Result, Ok, Err, refl, sym, ◌∙◌, add-one, arith, drop-cons}
 use borrow.Author.Tests.{lt-ltb, le-ltb}
-use lib.ListN.{length, get_or, drop, drop_of_length-le}
-use lib.Seq.{drop-cons}
+use lib.ListN.{drop_of_length-le}
+use Rattle.theory_legs.specs.declared.LegRefusal.{LegRefusal}
+use Rattle.theory_legs.specs.declared.LegRefusal.TheVariants.{CutShort, BadNumber}
 use Rattle.theory_legs.specs.Groups.{fault, found, and_then, above, read_groups, not_large, read_number}
 use Rattle.theory_legs.proofs.Groups.{read-last, read_more, groups_room, groups-small, number_read}
-use Rattle.groups.specs.declared.Number.{Number}
-use Rattle.groups.specs.declared.Number.TheVariants.{Value, CutShort, Bad}
-use Rattle.groups.specs.Reading.{number_told, groups_from, number_from, Few, Joined, Bounded}
+use Rattle.groups.specs.Reading.{number_told, groups_from, number_from, Joined, Bounded}
 
 -- A group before more
 
-module _ (g : ℕ) {more : Number} where
-  pub joined-needless : {n next : ℕ} → more ≡ Value n next → n ≡ 0 → Joined g more Bad
-  unfolding number_told and_then above
-  joined-needless e z = record { joined = λ ys. rw (e, z) }
+pub joined-needless : (g : ℕ) {more : ℕ × ℕ} → more.0 ≡ 0 → Joined g more (Err BadNumber)
+unfolding number_told above
+joined-needless g z = record { joined = λ ys. rw z }
 
-  pub joined-value : {n next : ℕ} → more ≡ Value n next → (n ≡ 0 → ⊥) → Joined g more (Value (g % 128 + n * 128) next)
-  unfolding number_told and_then above
-  joined-value {n} {next} e z = record { joined = λ ys. rw e (some n z ys) }
-    where
-      some : (n : ℕ) → (n ≡ 0 → ⊥) → (ys : List ℕ) → found (g % 128 + n * 128) (drop next ys) ≡ above g n (drop next ys)
-      some zero z ys = absurd (z refl)
-      some (suc n) z ys = refl
-
-  pub joined-cut : more ≡ CutShort → Joined g more CutShort
-  unfolding number_told and_then
-  joined-cut e = record { joined = λ ys. rw e }
-
-  pub joined-bad : more ≡ Bad → Joined g more Bad
-  unfolding number_told and_then
-  joined-bad e = record { joined = λ ys. rw e }
-
-pub few-value : {more : Number} {n next : ℕ} → Few more → more ≡ Value n next → n < 16384
-unfolding Few
-few-value f e = rw e at f
+pub joined-value : (g n next : ℕ) → (n ≡ 0 → ⊥) → Joined g (n, next) (Ok (g % 128 + n * 128, next))
+unfolding number_told above
+joined-value g zero next z = absurd (z refl)
+joined-value g (suc n) next z = record { joined = λ ys. refl }
 
 -- Not too large
 
-module _ {number : Number} where
-  pub bounded-large : {n next : ℕ} → number ≡ Value n next → 65535 < n → Bounded number Bad
-  unfolding number_told and_then not_large
-  bounded-large {n} e h = record { bounded = λ ys. rw (e, lt-ltb 65535 n h) }
+pub bounded-large : {number : ℕ × ℕ} → 65535 < number.0 → Bounded number (Err BadNumber)
+unfolding number_told not_large
+bounded-large {number} h = record { bounded = λ ys. rw (lt-ltb 65535 number.0 h) }
 
-  pub bounded-value : {n next : ℕ} → number ≡ Value n next → n ≤ 65535 → Bounded number (Value n next)
-  unfolding number_told and_then not_large
-  bounded-value {n} e h = record { bounded = λ ys. rw (e, le-ltb 65535 n h) }
-
-  pub bounded-cut : number ≡ CutShort → Bounded number CutShort
-  unfolding number_told and_then
-  bounded-cut e = record { bounded = λ ys. rw e }
-
-  pub bounded-bad : number ≡ Bad → Bounded number Bad
-  unfolding number_told and_then
-  bounded-bad e = record { bounded = λ ys. rw e }
+pub bounded-value : {number : ℕ × ℕ} → number.0 ≤ 65535 → Bounded number (Ok number)
+unfolding number_told not_large
+bounded-value {number} h = record { bounded = λ ys. rw (le-ltb 65535 number.0 h) }
 
 -- Group by group
 
-pub groups_none : (ys : List ℕ) (at k : ℕ) → k ≡ 0 → number_told ys Bad ≡ groups_from k ys at
+pub groups_none : (ys : List ℕ) (at k : ℕ) → k ≡ 0 → number_told ys (Err BadNumber) ≡ groups_from k ys at
 unfolding number_told groups_from read_groups
 groups_none ys at k e = rw e
 
@@ -77,12 +47,12 @@ module _ (ys : List ℕ) (at : ℕ) where
   unfolding number_from groups_from read_number
   number-groups = refl
 
-  pub groups-cut : (k : ℕ) → (k ≡ 0 → ⊥) → length ys ≤ at → number_told ys CutShort ≡ groups_from k ys at
+  pub groups-cut : (k : ℕ) → (k ≡ 0 → ⊥) → length ys ≤ at → number_told ys (Err CutShort) ≡ groups_from k ys at
   unfolding number_told
   groups-cut zero z h = absurd (z refl)
   groups-cut (suc k) z h = sym (from_cut k h)
 
-  pub number_cut : length ys ≤ at → number_told ys CutShort ≡ number_from ys at
+  pub number_cut : length ys ≤ at → number_told ys (Err CutShort) ≡ number_from ys at
   unfolding number_told and_then
   number_cut h = sym (number-groups ∙ rw (from_cut 2 h))
 
@@ -99,39 +69,54 @@ module _ (ys : List ℕ) (at : ℕ) where
     unfolding groups_from
     from_more k l = rw here (read_more k g (drop (at + 1) ys) l)
 
-    pub groups-last : (k : ℕ) → (k ≡ 0 → ⊥) → g < 128 → number_told ys (Value g (at + 1)) ≡ groups_from k ys at
+    pub groups-last : (k : ℕ) → (k ≡ 0 → ⊥) → g < 128 → number_told ys (Ok (g, at + 1)) ≡ groups_from k ys at
     unfolding number_told
     groups-last zero z l = absurd (z refl)
     groups-last (suc k) z l = sym (from_last k l)
 
-    pub number-last : g < 128 → number_told ys (Value g (at + 1)) ≡ number_from ys at
+    pub number-last : g < 128 → number_told ys (Ok (g, at + 1)) ≡ number_from ys at
     unfolding number_told and_then not_large
     number-last l = sym (number-groups ∙ rw (from_last 2 l, le-ltb 65535 g (omega arith)))
 
-    module _ {more x : Number} (m : 128 ≤ g) (j : Joined g more x) where
-      pub groups-more : (k : ℕ) → (k ≡ 0 → ⊥) → number_told ys more ≡ groups_from (k - 1) ys (at + 1) → number_told ys x ≡ groups_from k ys at
-      groups-more zero z t = absurd (z refl)
-      groups-more (suc k) z t =
+    module _ (m : 128 ≤ g) where
+      pub groups-more : (more : ℕ × ℕ) (r : Result (ℕ × ℕ) LegRefusal) (k : ℕ) → (k ≡ 0 → ⊥) → Joined g more r →
+          number_told ys (Ok more) ≡ groups_from (k - 1) ys (at + 1) → number_told ys r ≡ groups_from k ys at
+      unfolding number_told and_then
+      groups-more more r zero z j t = absurd (z refl)
+      groups-more more r (suc k) z j t =
           let less : suc k - 1 ≡ k = omega arith in
-          j.joined ys ∙ rw (t, less) (sym (from_more k m))
+          j.joined ys ∙ sym (from_more k m ∙ rw (← (rw less at t)))
 
-      pub number_more : {y : Number} → number_told ys more ≡ groups_from 2 ys (at + 1) → Bounded x y → number_told ys y ≡ number_from ys at
-      number_more t b = b.bounded ys ∙ rw (j.joined ys, t, ← (from_more 2 m)) (sym number-groups)
+      pub groups-fault : (why : LegRefusal) (k : ℕ) → (k ≡ 0 → ⊥) → number_told ys (Err why) ≡ groups_from (k - 1) ys (at + 1) →
+          number_told ys (Err why) ≡ groups_from k ys at
+      unfolding number_told and_then
+      groups-fault why zero z t = absurd (z refl)
+      groups-fault why (suc k) z t =
+          let less : suc k - 1 ≡ k = omega arith in
+          sym (from_more k m ∙ rw (← (rw less at t)))
+
+-- all groups of a number: that it is not too large is asked last
+pub number-fault : (ys : List ℕ) (at : ℕ) (why : LegRefusal) → number_told ys (Err why) ≡ groups_from 3 ys at → number_told ys (Err why) ≡ number_from ys at
+unfolding number_told and_then
+number-fault ys at why t = sym (number-groups ys at ∙ rw (← t))
+
+pub number-all : (ys : List ℕ) (at : ℕ) (number : ℕ × ℕ) (r : Result (ℕ × ℕ) LegRefusal) → number_told ys (Ok number) ≡ groups_from 3 ys at →
+    Bounded number r → number_told ys r ≡ number_from ys at
+unfolding number_told and_then
+number-all ys at number r t b = b.bounded ys ∙ sym (number-groups ys at ∙ rw (← t))
 
 -- a number of two groups at most is few
-pub groups-few : (ys : List ℕ) (at k : ℕ) (x : Number) → k ≤ 2 → number_told ys x ≡ groups_from k ys at → Few x
-unfolding Few number_told groups_from groups_room
-groups-few ys at k (Value n next) h t = small k h (groups-small k (drop at ys) (sym t))
+pub groups-few : (ys : List ℕ) (at k : ℕ) (x : ℕ × ℕ) → k ≤ 2 → number_told ys (Ok x) ≡ groups_from k ys at → x.0 < 16384
+unfolding number_told groups_from groups_room
+groups-few ys at k x h t = small k h (groups-small k (drop at ys) (sym t))
   where
-    small : (k : ℕ) → k ≤ 2 → n < groups_room k → n < 16384
+    small : (k : ℕ) → k ≤ 2 → x.0 < groups_room k → x.0 < 16384
     small zero h l = omega arith
     small (suc zero) h l = omega arith
     small (suc (suc zero)) h l = omega arith
     small (suc (suc (suc k))) h l = absurd (omega arith)
-groups-few ys at k CutShort h t = tt
-groups-few ys at k Bad h t = tt
 
 -- a number that is read is small
-pub told-small : (ys : List ℕ) (at : ℕ) {x : Number} {n next : ℕ} → x ≡ Value n next → number_told ys x ≡ number_from ys at → n ≤ 65535
+pub told-small : (ys : List ℕ) (at : ℕ) (x : ℕ × ℕ) → number_told ys (Ok x) ≡ number_from ys at → x.0 ≤ 65535
 unfolding number_told number_from
-told-small ys at e t = (number_read (drop at ys) (sym (rw e at t))).small
+told-small ys at x t = (number_read (drop at ys) (sym t)).small

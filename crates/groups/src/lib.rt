@@ -1,12 +1,14 @@
 // The numbers of a file of legs, groups of seven bits: written and read.
 #![tactic(auto)]
 
-ghost use Rattle.std.specs.Prelude.{◌≡◌, ◌≤◌, ◌<◌, ◌+◌, length};
+ghost use Rattle.std.specs.Prelude.{◌≡◌, ◌≤◌, ◌<◌, ◌+◌, length, get_or, IfOk, IfErr};
+ghost use Rattle.theory_legs.specs.declared.LegRefusal.TheVariants.{CutShort};
 ghost use Rattle.buffers.specs.Over.{Puts};
 ghost use Rattle.theory_legs.specs.Groups.{number_bytes};
-ghost use Rattle.groups.specs.Reading.{number_told, groups_from, number_from, Few, Joined, Bounded};
+ghost use Rattle.groups.specs.Reading.{number_told, groups_from, number_from, Joined, Bounded};
 
 use buffers::put_byte;
+use theory_legs::LegRefusal;
 
 // Writes a number's groups from index at on, and answers the index after them.
 pub fn put_number(out: &mut [u8], at: usize, n: u32) -> usize
@@ -29,91 +31,73 @@ pub fn number_size(n: usize) -> usize
     ensures { result ≡ length (number_bytes n) }
 {
     if n < 128 {
-        return 1;
+        1
+    } else if n < 16384 {
+        2
+    } else {
+        3
     }
-    if n < 16384 {
-        return 2;
-    }
-    3
-}
-
-// A number of a file, with the index after it; or why there is none: it is cut short, or too large or with a needless group.
-#[derive(Clone, Copy)]
-pub enum Number {
-    Value(u32, usize),
-    CutShort,
-    Bad,
 }
 
 // A group with its top bit set, before groups that come to a number; these are needless if it is 0.
-fn above(g: u32, more: Number) -> Number
-    requires { Few more }
+fn above(g: u32, more: (u32, usize)) -> Result<(u32, usize), LegRefusal>
+    requires { more.0 < 16384 }
     ensures { Joined g more result }
 {
-    match more {
-        Number::Value(n, next) => {
-            if n == 0 {
-                return Number::Bad;
-            }
-            return Number::Value(g % 128 + n * 128, next);
-        }
-        Number::CutShort => return Number::CutShort,
-        Number::Bad => return Number::Bad,
+    let (n, next) = more;
+    if n == 0 {
+        Err(LegRefusal::BadNumber)
+    } else {
+        Ok((g % 128 + n * 128, next))
     }
 }
 
 // A number that is not too large.
-fn not_large(number: Number) -> Number
+fn not_large(number: (u32, usize)) -> Result<(u32, usize), LegRefusal>
     ensures { Bounded number result }
 {
-    match number {
-        Number::Value(n, next) => {
-            if 65535 < n {
-                return Number::Bad;
-            }
-            return Number::Value(n, next);
-        }
-        Number::CutShort => return Number::CutShort,
-        Number::Bad => return Number::Bad,
+    if 65535 < number.0 {
+        Err(LegRefusal::BadNumber)
+    } else {
+        Ok(number)
     }
 }
 
-fn wide(x: u8) -> u32
-    ensures { result ≡ x }
+// The group at an index of a file.
+fn group_at(file: &[u8], at: usize) -> Result<u32, LegRefusal>
+    ensures read { IfOk result (λ g. (at < length file.now) × (g ≡ get_or file.now at 0)) }
+    ensures cut { IfErr result (λ why. (length file.now ≤ at) × (why ≡ CutShort)) }
 {
-    x as u32
+    if at < file.len() {
+        Ok(u32::from(file[at]))
+    } else {
+        Err(LegRefusal::CutShort)
+    }
 }
 
-// A number of k groups at most, from index at of a file on.
-fn read_groups(k: u32, file: &[u8], at: usize) -> Number
+// A number of k groups at most, from index at of a file on, with the index after it; or why there is none: it is cut short, or too large or with
+// a needless group.
+fn read_groups(k: u32, file: &[u8], at: usize) -> Result<(u32, usize), LegRefusal>
     requires { k ≤ 2 }
     ensures { number_told file.now result ≡ groups_from k file.now at }
 {
     if k == 0 {
-        return Number::Bad;
+        return Err(LegRefusal::BadNumber);
     }
-    if file.len() <= at {
-        return Number::CutShort;
-    }
-    let group = wide(file[at]);
-    let next = at + 1;
+    let group = group_at(file, at)?;
     if group < 128 {
-        return Number::Value(group, next);
+        return Ok((group, at + 1));
     }
-    above(group, read_groups(k - 1, file, next))
+    above(group, read_groups(k - 1, file, at + 1)?)
 }
 
-// The number from index at of a file on. Most have one group.
-pub fn read_number(file: &[u8], at: usize) -> Number
+// The number from index at of a file on, with the index after it. Most have one group.
+pub fn read_number(file: &[u8], at: usize) -> Result<(u32, usize), LegRefusal>
     ensures { number_told file.now result ≡ number_from file.now at }
 {
-    if file.len() <= at {
-        return Number::CutShort;
-    }
-    let first = wide(file[at]);
-    let next = at + 1;
+    let first = group_at(file, at)?;
     if first < 128 {
-        return Number::Value(first, next);
+        return Ok((first, at + 1));
     }
-    not_large(above(first, read_groups(2, file, next)))
+    not_large(above(first, read_groups(2, file, at + 1)?)?)
 }
