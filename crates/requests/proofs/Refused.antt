@@ -1,62 +1,39 @@
--- Refusals 6 to 9 as the code tests them: a row of tests, and one more after those that a check has made. Assumes nothing.
-use Rattle.std.specs.Prelude.{Result, Ok, Err, ⊤}
-use mathlib.Core.Path.{◌≡◌, sym}
-use mathlib.Core.Logic.{inl, inr}
-use mathlib.Core.Bool.{Bool, true, false, not, cond}
-use mathlib.Core.List.{List, [], ◌∷◌, ◌++◌}
-use Prim.Native.Nat.{ℕ, ◌≤◌, ◌<◌}
-use borrow.Author.Tests.{lt-ltb, le-ltb, lt-leb, le-leb, ltb-true, ltb-false}
-use lib.Dec.{leb, ltb}
+-- Refusals 6 to 9 as the code tests them: one more test after those that a check has made. Assumes nothing.
+use Rattle.std.proofs.Common.{◌≡◌, sym, Bool, cond, refl, [], ◌∷◌, Err}
+use Rattle.std.specs.Prelude.{⊤}
 use Rattle.mesh.specs.declared.Network.{Network}
 use Rattle.mesh.specs.declared.Place.{Place}
 use Rattle.mesh.specs.declared.Refusal.{Refusal}
-use Rattle.mesh.specs.declared.Refusal.TheVariants.{BlockNearInRow, Unlawful}
-use Rattle.mesh.specs.Mesh.{Mesh, mesh, on_mesh}
-use Rattle.mesh.specs.Tests.{Test, ◌gives◌, first}
-use Rattle.mesh.specs.Numbers.{number, checked_number}
-use Rattle.mesh.specs.Requests.{off_mesh, in_block, block_near_in_row, unserved, place_tests, trip_tests, request_tests}
-use Rattle.mesh.proofs.Bools.{value}
-use Rattle.mesh.proofs.Tests.{numbered, told-refused, told-clear, clear_next}
-use Rattle.mesh.proofs.Requests.{place-numbered, trip-numbered}
+use Rattle.mesh.specs.Mesh.{Mesh}
+use Rattle.mesh.specs.Tests.{◌gives◌, first}
+use Rattle.mesh.specs.Numbers.{number}
+use Rattle.mesh.specs.Requests.{block_near_in_row, unserved, place_tests, trip_tests, request_tests}
+use Rattle.mesh.proofs.Tests.{told-refused, clear_next, clear-before}
+use Rattle.mesh.proofs.Requests.{place-numbered, trip-numbered, placed}
+use Rattle.nodes.specs.Sized.{OnMesh}
+use Rattle.nodes.proofs.Lookup.{on-mesh}
 
--- one test more after those that a check has made
-module _ (ts : List Test) (n : numbered ts ≡ true) (t : Test) {x : Result ⊤ Refusal} (told : checked_number x ≡ first ts) where
-  before-it : {why : Refusal} → x ≡ Err why → checked_number {A = ⊤} (Err why) ≡ first (ts ++ (t ∷ []))
-  before-it e = sym (told-refused ts (t ∷ []) told e)
+module _ (w : Mesh) (s d : Place) where
+  pub destination-on : 0 ≡ first (place_tests w s d) → OnMesh w d
+  destination-on clear = on-mesh w d (placed w s d (sym clear)).destination-on
 
-  it-decides : x ≡ Ok tt → cond t.holds t.number 0 ≡ first (ts ++ (t ∷ []))
-  unfolding first
-  it-decides e = sym (clear_next ts (t ∷ []) n (told-clear ts e told))
+  pub source-on : 0 ≡ first (trip_tests w s d) → OnMesh w s
+  unfolding trip_tests
+  source-on clear = on-mesh w s (placed w s d (clear-before (place_tests w s d) _ (sym clear))).source-on
 
-module _ (w : Mesh) (s d : Place) {x : Result ⊤ Refusal} where
-  module _ (told : checked_number x ≡ first (place_tests w s d)) where
-    pub place-first : {why : Refusal} → x ≡ Err why → checked_number {A = ⊤} (Err why) ≡ first (trip_tests w s d)
-    unfolding trip_tests
-    place-first = before-it (place_tests w s d) (place-numbered w s d) (block_near_in_row w d gives 8) told
+  pub place-refused : (why : Refusal) → number why ≡ first (place_tests w s d) → number why ≡ first (trip_tests w s d)
+  unfolding trip_tests
+  place-refused why told = sym (told-refused (place_tests w s d) _ {A = ⊤} {x = Err why} told refl)
 
-    module _ (e : x ≡ Ok tt) {r : Bool} (is-r : r ≡ block_near_in_row w d) where
-      near-decides : cond r 8 0 ≡ first (trip_tests w s d)
-      unfolding trip_tests
-      near-decides = rw is-r (it-decides (place_tests w s d) (place-numbered w s d) (block_near_in_row w d gives 8) told e)
+  pub near-decides : {b : Bool} → 0 ≡ first (place_tests w s d) → b ≡ block_near_in_row w d → cond b 8 0 ≡ first (trip_tests w s d)
+  unfolding trip_tests first
+  near-decides clear e = rw e (sym (clear_next (place_tests w s d) (block_near_in_row w d gives 8 ∷ []) (place-numbered w s d) (sym clear)))
 
-      pub near-refused : r ≡ true → checked_number {A = ⊤} (Err BlockNearInRow) ≡ first (trip_tests w s d)
-      near-refused f = rw (← near-decides, f)
-
-      pub near-clear : r ≡ false → checked_number {A = ⊤} (Ok tt) ≡ first (trip_tests w s d)
-      near-clear f = rw (← near-decides, f)
-
-  module _ (n : Network) (told : checked_number x ≡ first (trip_tests w s d)) where
-    pub trip-first : {why : Refusal} → x ≡ Err why → checked_number {A = ⊤} (Err why) ≡ first (request_tests n w s d)
+  module _ (n : Network) where
+    pub trip-refused : (why : Refusal) → number why ≡ first (trip_tests w s d) → number why ≡ first (request_tests n w s d)
     unfolding request_tests
-    trip-first = before-it (trip_tests w s d) (trip-numbered w s d) (unserved n w s d gives 9) told
+    trip-refused why told = sym (told-refused (trip_tests w s d) _ {A = ⊤} {x = Err why} told refl)
 
-    module _ (e : x ≡ Ok tt) {u : Bool} (is-u : u ≡ unserved n w s d) where
-      unserved-decides : cond u 9 0 ≡ first (request_tests n w s d)
-      unfolding request_tests
-      unserved-decides = rw is-u (it-decides (trip_tests w s d) (trip-numbered w s d) (unserved n w s d gives 9) told e)
-
-      pub unserved-refused : u ≡ true → checked_number {A = ⊤} (Err Unlawful) ≡ first (request_tests n w s d)
-      unserved-refused f = rw (← unserved-decides, f)
-
-      pub unserved-clear : u ≡ false → checked_number {A = ⊤} (Ok tt) ≡ first (request_tests n w s d)
-      unserved-clear f = rw (← unserved-decides, f)
+    pub unserved-decides : {b : Bool} → 0 ≡ first (trip_tests w s d) → b ≡ unserved n w s d → cond b 9 0 ≡ first (request_tests n w s d)
+    unfolding request_tests first
+    unserved-decides clear e = rw e (sym (clear_next (trip_tests w s d) (unserved n w s d gives 9 ∷ []) (trip-numbered w s d) (sym clear)))
