@@ -2,20 +2,11 @@
 #![tactic(auto)]
 
 ghost use Rattle.std.specs.Prelude.{◌≡◌, ◌+◌, ◌*◌, ◌^◌, ◌≤◌, ◌<◌, Some, IfSome, option_copied};
-ghost use Rattle.mesh.specs.Mesh.{place};
 ghost use Rattle.sheet_words.specs.Words.{more, spaced, two, ended, sizes, fault, send_to, send, command, command_at};
 ghost use Rattle.sheet_words.specs.Reading.{read_view, after, digit};
 
-use mesh::{Column, Place, Row};
-
-fn place_of(row: u32, column: u32) -> Place
-    ensures { result ≡ place row column }
-{
-    Place {
-        row: Row(row),
-        column: Column(column),
-    }
-}
+use mesh::Place;
+use numbers::place_of;
 
 // What a line says. Its numbers have one to three digits; whether they fit the mesh is not asked here.
 #[derive(Clone, Copy)]
