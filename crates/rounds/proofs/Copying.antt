@@ -9,7 +9,8 @@ use native.Mathlib.Omega.{arith}
 use lib.ListN.{length, get_or, set}
 use lib.Seq.{get_or-set_same, get_or-set_other}
 use Rattle.mesh.specs.Mesh.{Mesh}
-use Rattle.mesh.proofs.Bools.{true-false, value, or_cases, or-none}
+use Rattle.mesh.proofs.Bools.{true-false, value, or-none}
+use Rattle.std.proofs.lemmas.Bool.{or_cases}
 use Rattle.mesh.proofs.Index.{index-within}
 use Rattle.nodes.specs.Rounds.{node_after}
 use Rattle.rounds.specs.Rounds.{DueAfter, RowCopied, Settled, OthersSettled, Rounded}
