@@ -1,17 +1,14 @@
 -- A leg of hops by the rules takes the walk on, and where the packet is there the walk ends. Assumes nothing.
-use mathlib.Core.Path.{◌≡◌, refl, sym, ◌∙◌}
-use mathlib.Core.Bool.{true, false}
-use mathlib.Core.List.{List, [], ◌∷◌}
-use Prim.Native.Nat.{ℕ, zero, suc, ◌+◌, ◌-◌, ◌≤◌, ◌<◌}
-use native.Mathlib.Nat.{add-zero}
-use native.Mathlib.Omega.{arith}
-use borrow.Author.Tests.{le-leb}
-use lib.Dec.{leb}
-use lib.ListN.{length, set, replicate}
+use Rattle.std.proofs.Common.{◌≡◌, refl, sym, ◌∙◌, true, false, List, [], ◌∷◌, ℕ, zero, suc, ◌+◌, ◌-◌, ◌≤◌, ◌<◌, length, arith}
+use Rattle.std.proofs.Math.Nat.{add-zero}
+use Rattle.std.proofs.Math.Dec.{leb}
+use Rattle.std.proofs.Math.ListN.{set, replicate}
+use Rattle.std.proofs.lemmas.Bool.{le-leb}
 use Rattle.mesh.specs.declared.Heading.{Heading}
 use Rattle.mesh.specs.declared.Network.{Network}
 use Rattle.mesh.specs.declared.Packet.{Packet}
-use Rattle.mesh.specs.Mesh.{Mesh, mesh}
+use Rattle.mesh.specs.declared.Place.{Place}
+use Rattle.mesh.specs.Mesh.{Mesh}
 use Rattle.mesh.specs.Headings.{row_after, column_after, letter, letters}
 use Rattle.mesh.specs.Rules.{Trip, at_destination, other_row, hop}
 use Rattle.mesh.specs.Hops.{At, stays, lawful, moved, at, trip_of, is_there, moved_packet}
@@ -23,7 +20,7 @@ use Rattle.hops.specs.Moved.{moved_by, Lands}
 use Rattle.hops.proofs.Landing.{stays-lands, stays_on}
 use Rattle.buffers.specs.Over.{over}
 use Rattle.buffers.proofs.Over.{over-length}
-use Rattle.nodes.specs.Sized.{OnMesh}
+use Rattle.nodes.specs.Sized.{Sized, OnMesh}
 use Rattle.rules.specs.Rows.{in_its_row, nears_row}
 use Rattle.travel.specs.Straight.{goes_straight, after, Runs}
 use Rattle.travel.proofs.Runs.{after-moved, runs-one}
@@ -58,10 +55,7 @@ follows-there network w p out made e =
     let none = walk-there (hop_limit - made) (trip_of network w p) (at p) (sym (there-arrived network w p) ∙ e) in
     record { counts = rw none (omega arith); writes = rw none }
 
-module _ {network : Network} {columns rows : ℕ} {marks : List ℕ} {p : Packet} {made : ℕ} (g : Going network columns rows marks p made) where
-  abbrev w : Mesh
-  w = mesh columns rows marks
-
+module _ {network : Network} {w : Mesh} {p : Packet} {made : ℕ} (g : Going network w p made) where
   going-few : made < hop_limit
   going-few = omega (arith, g.leads.enough)
 
@@ -71,15 +65,15 @@ module _ {network : Network} {columns rows : ℕ} {marks : List ℕ} {p : Packet
         leads-hop (hop_limit - (made + 1)) (hop_limit - made) (trip_of network w p) (at p) (omega (arith, going-few)) g.leads
         (sym (there-arrived network w p) ∙ away)
 
-    first-stays : stays columns rows (hop_from network w p) p.place.row.0 p.place.column.0 ≡ true
+    first-stays : stays w.columns w.rows (hop_from network w p) p.place.row.0 p.place.column.0 ≡ true
     unfolding lawful hop_from
     first-stays = (and_both first.lawfully).0
 
     module _ {h : Heading} (is-h : h ≡ hop_from network w p) where
-      lands-one : Lands h 1 p.place.row.0 p.place.column.0
-      lands-one = rw is-h (stays-lands g.on-mesh.here _ first-stays)
+      lands-one : Sized w.columns w.rows w.map → Lands h 1 p.place.row.0 p.place.column.0
+      lands-one sized = rw is-h (stays-lands g.on-mesh.here sized _ first-stays)
 
-      going_on : Going network columns rows marks (moved_packet h p) (made + 1)
+      going_on : Going network w (moved_packet h p) (made + 1)
       unfolding hop_from moved
       going_on =
           rw is-h
@@ -95,16 +89,22 @@ module _ {network : Network} {columns rows : ℕ} {marks : List ℕ} {p : Packet
           let f' = rw is-h at f in
           record { counts = rw first.walks (omega (arith, f'.counts)); writes = rw first.walks f'.writes }
 
-lands-none : {columns rows : ℕ} {marks : List ℕ} {h : Heading} {r c : ℕ} → OnMesh columns rows marks r c → Lands h 0 r c
-lands-none on =
-    record { row = omega arith; column = omega arith; hops = omega arith; south = λ e. omega arith; west = λ e. omega arith }
+lands-none : {w : Mesh} {h : Heading} {p : Place} → Sized w.columns w.rows w.map → OnMesh w p → Lands h 0 p.row.0 p.column.0
+lands-none sized on =
+    record {
+      row = omega (arith, on.row, sized.few-rows);
+      column = omega (arith, on.column, sized.few-columns);
+      hops = omega arith;
+      south = λ e. omega arith;
+      west = λ e. omega arith;
+    }
 
 -- n hops that way by the rules
-record Ran (network : Network) (columns rows : ℕ) (marks : List ℕ) (h : Heading) (n : ℕ) (p : Packet) (made : ℕ) : Type 0 where
-  pub going : Going network columns rows marks (after n h p) (made + n)
+record Ran (network : Network) (w : Mesh) (h : Heading) (n : ℕ) (p : Packet) (made : ℕ) : Type 0 where
+  pub going : Going network w (after n h p) (made + n)
   pub onward : {out : List ℕ} {x : ℕ} {end : List ℕ} →
-      Follows network (mesh columns rows marks) (after n h p) (over out made (replicate n (letter h))) (made + n) x end →
-      Follows network (mesh columns rows marks) p out made x end
+      Follows network w (after n h p) (over out made (replicate n (letter h))) (made + n) x end →
+      Follows network w p out made x end
   pub few : made + n < hop_limit
   pub lands : Lands h n p.place.row.0 p.place.column.0
 
@@ -120,20 +120,20 @@ lands-more h one more few =
       west = λ e. omega (arith, one.west e, rw e at (more.west e));
     }
 
-ran : {network : Network} {columns rows : ℕ} {marks : List ℕ} {h : Heading} (n : ℕ) {p : Packet} {made : ℕ} → Going network columns rows marks p made →
-    ((i : ℕ) → i < n → is_there (after i h p) ≡ false) → ((i : ℕ) → i < n → h ≡ hop_from network (mesh columns rows marks) (after i h p)) →
-    Ran network columns rows marks h n p made
+ran : {network : Network} {w : Mesh} (sized : Sized w.columns w.rows w.map) {h : Heading} (n : ℕ) {p : Packet} {made : ℕ} → Going network w p made →
+    ((i : ℕ) → i < n → is_there (after i h p) ≡ false) → ((i : ℕ) → i < n → h ≡ hop_from network w (after i h p)) →
+    Ran network w h n p made
 unfolding after over moved
-ran zero g away hops =
-    record { going = rw add-zero g; onward = λ f. rw add-zero at f; few = rw add-zero (going-few g); lands = lands-none g.on-mesh.here }
-ran {h = h} (suc n) {p} {made} g away hops =
-    let next = ran n (going_on g (away 0 (omega arith)) (hops 0 (omega arith))) (λ i less. away (suc i) (omega arith)) (λ i less. hops (suc i) (omega arith)) in
+ran sized zero g away hops =
+    record { going = rw add-zero g; onward = λ f. rw add-zero at f; few = rw add-zero (going-few g); lands = lands-none sized g.on-mesh.here }
+ran sized {h = h} (suc n) {p} {made} g away hops =
+    let next = ran sized n (going_on g (away 0 (omega arith)) (hops 0 (omega arith))) (λ i less. away (suc i) (omega arith)) (λ i less. hops (suc i) (omega arith)) in
     let m : made + 1 + n ≡ made + suc n = omega arith in
     record {
       going = rw (← m) next.going;
       onward = λ f. follows_on g (away 0 (omega arith)) (hops 0 (omega arith)) (next.onward (rw (← m) at f));
       few = omega (arith, next.few);
-      lands = lands-more h (lands-one g (away 0 (omega arith)) (hops 0 (omega arith))) next.lands (omega (arith, next.few));
+      lands = lands-more h (lands-one g (away 0 (omega arith)) (hops 0 (omega arith)) sized) next.lands (omega (arith, next.few));
     }
 
 after-some : (n : ℕ) (h : Heading) (p : Packet) → 1 ≤ n → moved_by h n p ≡ after n h p
@@ -149,33 +149,35 @@ round-one {network} {w} {p} {h} off is-h =
     runs-one network w h p (rw row) (rw row is-h)
 
 -- from p₀ with begun hops made the packet has come to p with made of them
-pub record Along (network : Network) (columns rows : ℕ) (marks : List ℕ) (p₀ : Packet) (out₀ : List ℕ) (begun : ℕ) (p : Packet) (out : List ℕ) (made : ℕ) : Type 0 where
-  pub going : Going network columns rows marks p made
-  pub onward : {x : ℕ} {after : List ℕ} → Follows network (mesh columns rows marks) p out made x after →
-      Follows network (mesh columns rows marks) p₀ out₀ begun x after
+pub record Along (network : Network) (w : Mesh) (p₀ : Packet) (out₀ : List ℕ) (begun : ℕ) (p : Packet) (out : List ℕ) (made : ℕ) : Type 0 where
+  pub sized : Sized w.columns w.rows w.map
+  pub going : Going network w p made
+  pub onward : {x : ℕ} {after : List ℕ} → Follows network w p out made x after →
+      Follows network w p₀ out₀ begun x after
   pub grew : begun ≤ made
   pub size : length out ≡ length out₀
 
-pub along-none : {network : Network} {columns rows : ℕ} {marks : List ℕ} {p : Packet} {out : List ℕ} {made : ℕ} →
-    Going network columns rows marks p made → Along network columns rows marks p out made p out made
-along-none g = record { going = g; onward = λ f. f; grew = omega arith; size = refl }
+pub along-none : {network : Network} {w : Mesh} {p : Packet} {out : List ℕ} {made : ℕ} → Sized w.columns w.rows w.map →
+    Going network w p made → Along network w p out made p out made
+along-none sized g = record { sized = sized; going = g; onward = λ f. f; grew = omega arith; size = refl }
 
-module _ {network : Network} {columns rows : ℕ} {marks : List ℕ} {p₀ : Packet} {out₀ : List ℕ} {begun : ℕ} {p : Packet} {out : List ℕ} {made : ℕ}
-    (a : Along network columns rows marks p₀ out₀ begun p out made) where
-  module _ {h : Heading} {n : ℕ} (r : Runs network (mesh columns rows marks) h n p) where
+module _ {network : Network} {w : Mesh} {p₀ : Packet} {out₀ : List ℕ} {begun : ℕ} {p : Packet} {out : List ℕ} {made : ℕ}
+    (a : Along network w p₀ out₀ begun p out made) where
+  module _ {h : Heading} {n : ℕ} (r : Runs network w h n p) where
     pub along-few : made + n < hop_limit
-    along-few = (ran n a.going r.away r.hops).few
+    along-few = (ran a.sized n a.going r.away r.hops).few
 
     pub along-lands : Lands h n p.place.row.0 p.place.column.0
-    along-lands = (ran n a.going r.away r.hops).lands
+    along-lands = (ran a.sized n a.going r.away r.hops).lands
 
     pub along-leg : {q : Packet} {out' : List ℕ} → 1 ≤ n → (q ≡ moved_by h n p) × (out' ≡ over out made (replicate n (letter h))) →
-        Along network columns rows marks p₀ out₀ begun q out' (made + n)
+        Along network w p₀ out₀ begun q out' (made + n)
     along-leg {q} {out'} some is-on =
-        let on = ran n a.going r.away r.hops in
+        let on = ran a.sized n a.going r.away r.hops in
         let is-q : q ≡ after n h p = is-on.0 ∙ after-some n h p some in
         rw (is-q, is-on.1)
         (record {
+          sized = a.sized;
           going = on.going;
           onward = λ f. a.onward (on.onward f);
           grew = omega (arith, a.grew);
@@ -183,6 +185,6 @@ module _ {network : Network} {columns rows : ℕ} {marks : List ℕ} {p₀ : Pac
         })
 
 -- an output with room for any route has room for this one
-pub room-enough : {network : Network} {columns rows : ℕ} {marks : List ℕ} {p : Packet} (room : ℕ) → Going network columns rows marks p 0 →
-    most_hops ≤ room → true ≡ leb (length (rest 0 network (mesh columns rows marks) p)) room
+pub room-enough : {network : Network} {w : Mesh} {p : Packet} (room : ℕ) → Going network w p 0 →
+    most_hops ≤ room → true ≡ leb (length (rest 0 network w p)) room
 room-enough room g h = sym (le-leb _ room (omega (arith, g.leads.enough)))

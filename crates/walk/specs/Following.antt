@@ -3,7 +3,7 @@ use Rattle.std.specs.Prelude.{◌≡◌, true, List, ℕ, suc, ◌+◌, ◌-◌,
 use Rattle.mesh.specs.declared.Heading.{Heading}
 use Rattle.mesh.specs.declared.Network.{Network}
 use Rattle.mesh.specs.declared.Packet.{Packet}
-use Rattle.mesh.specs.Mesh.{Mesh, mesh}
+use Rattle.mesh.specs.Mesh.{Mesh}
 use Rattle.mesh.specs.Headings.{letters}
 use Rattle.mesh.specs.Rules.{Trip}
 use Rattle.mesh.specs.Hops.{At, at, trip_of}
@@ -26,9 +26,9 @@ abbrev pub rest : ℕ → Network → Mesh → Packet → List Heading
 rest made network w p = walk (hop_limit - made) (trip_of network w p) (at p)
 
 -- the packet is on the mesh, and within the limit hops lead to its destination, which is on it too
-pub record Going (network : Network) (columns rows : ℕ) (marks : List ℕ) (p : Packet) (made : ℕ) : Type 0 where
-  pub on-mesh : BothOnMesh columns rows marks p
-  pub leads : Leads (hop_limit - made) (trip_of network (mesh columns rows marks) p) (at p)
+pub record Going (network : Network) (w : Mesh) (p : Packet) (made : ℕ) : Type 0 where
+  pub on-mesh : BothOnMesh w p
+  pub leads : Leads (hop_limit - made) (trip_of network w p) (at p)
 
 -- the hops are counted, and their letters written where there is room for them
 pub record Follows (network : Network) (w : Mesh) (p : Packet) (out : List ℕ) (made x : ℕ) (after : List ℕ) : Type 0 where

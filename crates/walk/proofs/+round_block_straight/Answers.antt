@@ -1,9 +1,6 @@
 -- The two modes: one walk, leg by leg. What falls is the hop limit less the hops made, counted twice and one more in straight travel, which
 -- may hand over at once. Assumes nothing.
-use mathlib.Core.Path.{sym, ◌∙◌}
-use mathlib.Core.Bool.{false}
-use native.Mathlib.Omega.{arith}
-use borrow.Author.Tests.{not-true, not-false}
+use Rattle.std.proofs.Common.{sym, ◌∙◌, arith}
 use Rattle.mesh.proofs.Bools.{or-none}
 use Rattle.rules.specs.Rows.{in_its_row, nears_row}
 use Rattle.walk.proofs.Following.{follows-there, along-none, round-one, along-few, along-lands, along-leg}
@@ -12,7 +9,7 @@ use Rattle.walk.proofs.+round_block_straight.Goals as goal
 pub round_block-loop-out-init : goal.round_block-loop-out-init
 round_block-loop-out-init t c =
     let asked = c.requires in
-    record { along = along-none asked.0; off = asked.1 }
+    record { along = along-none (rw (← c.nodes.view_is) c.nodes.invariant) asked.0; off = asked.1 }
 
 pub round_block-go_round-h-requires : goal.round_block-go_round-h-requires
 round_block-go_round-h-requires t c = (c.loop-out.invariant.along.going.on-mesh.here, (or-none (in_its_row c.loop-out.p) (nears_row c.loop-out.p) c.loop-out.invariant.off).1)
@@ -60,25 +57,19 @@ round_block-loop-out-preserved t c =
     }
 
 pub straight-loop-network-init : goal.straight-loop-network-init
-straight-loop-network-init t c = along-none c.requires
+straight-loop-network-init t c = along-none (rw (← c.nodes.view_is) c.nodes.invariant) c.requires
 
 pub straight-round_block-requires : goal.straight-round_block-requires
 straight-round_block-requires t c = (
   omega (arith, c.decreases, c.loop-network.invariant.grew),
-  (c.loop-network.invariant.going, sym c.is_straight.ensures ∙ not-true _ c.if-not-is_straight.true-raw),
+  (c.loop-network.invariant.going, sym c.is_straight.ensures ∙ c.if-not-is_straight.true),
 )
-
-pub straight-shape_of-out-then-not-is_straight : goal.straight-shape_of-out-then-not-is_straight
-straight-shape_of-out-then-not-is_straight t c = c.round_block.auto.out ∙ c.loop-network.invariant.size
-
-pub straight-returns-then-not-is_straight : goal.straight-returns-then-not-is_straight
-straight-returns-then-not-is_straight t c = c.loop-network.invariant.onward c.round_block.ensures
 
 pub straight-next_leg-leg-requires : goal.straight-next_leg-leg-requires
 straight-next_leg-leg-requires t c = (
   c.loop-network.invariant.going.on-mesh,
-  sym c.is_straight.ensures ∙ not-false _ c.if-not-is_straight.false-raw,
-  sym c.is_there.ensures ∙ not-true _ c.loop-network-test.true-raw,
+  sym c.is_straight.ensures ∙ c.if-not-is_straight.false,
+  sym c.is_there.ensures ∙ c.loop-network-test.true,
 )
 
 pub straight-advance-p-requires : goal.straight-advance-p-requires
@@ -101,10 +92,7 @@ straight-loop-network-preserved t c =
     let leg = c.next_leg-leg.ensures in
     along-leg c.loop-network.invariant leg.1 leg.0 c.advance-p.ensures
 
-pub straight-shape_of-out : goal.straight-shape_of-out
-straight-shape_of-out t c = c.loop-network.invariant.size
-
 pub straight-returns : goal.straight-returns
 straight-returns t c =
     c.loop-network.invariant.onward
-    (follows-there _ _ _ _ _ (sym c.is_there.ensures ∙ not-false _ c.loop-network-test.false-raw))
+    (follows-there _ _ _ _ _ (sym c.is_there.ensures ∙ c.loop-network-test.false))
