@@ -139,6 +139,7 @@ impl TryFrom<u32> for Network {
 
     ghost try_from_gives = { λ n r. r ≡ network_read n };
 
+    #[tactic(auto, unfolding(crate::specs::Numbers::network_read, crate::specs::Numbers::is_network, crate::specs::Numbers::network_of))]
     fn try_from(n: u32) -> Result<Self, NoNumber> {
         match n {
             1 => Ok(Network::First),
