@@ -1,41 +1,60 @@
 // The marking of a fault map, and the operation "Mark blocks".
 #![tactic(auto)]
 
-ghost use Rattle.std.specs.Prelude.{◌≤◌, length};
+ghost use Rattle.std.specs.Prelude.{◌≡◌, ◌≤◌, length, IfOk};
+ghost use Rattle.mesh.specs.Mesh.{mesh};
+ghost use Rattle.mesh.specs.Tests.{first};
+ghost use Rattle.mesh.specs.Numbers.{checked_number};
+ghost use Rattle.mesh.specs.Rounds.{marked};
+ghost use Rattle.mesh.specs.Maps.{map_tests};
 ghost use Rattle.mesh.specs.Marking.{MarksBlocks};
-ghost use Rattle.marking.specs.Marks.{MarksMap};
 
-use blocks::count_blocks;
+use blocks::{Marks, count_blocks};
 use maps::check_map;
-use mesh::{Checked, Marked, Refusal};
+use mesh::{Marked, Refusal};
+use nodes::Nodes;
 use rounds::mark;
 
-// Refusals 1 to 5; if none applies, the marking stands in the first places of marks.
-pub fn mark_map(columns: u32, rows: u32, map: &[u8], marks: &mut [u8]) -> Checked
+// Refusals 1 to 5; where none applies, the marking, which stands in the first places of marks.
+pub fn mark_map<'a>(
+    columns: u32,
+    rows: u32,
+    map: &[u8],
+    marks: &'a mut [u8],
+) -> Result<Marks<'a>, Refusal>
     requires { 4096 ≤ length marks.old }
-    ensures { MarksMap columns rows map.now result marks.new }
+    ensures refusals { checked_number result ≡ first (map_tests columns rows map.now) }
+    ensures marks { IfOk result (λ m. m ≡ marked (mesh columns rows map.now)) }
 {
-    let checked = check_map(columns, rows, map);
-    if let Checked::Refused(why) = checked {
-        return Checked::Refused(why);
-    }
-    let n = map.len();
-    mark(columns, rows, map, &mut marks[..n]);
-    Checked::Clear
+    let faults = check_map(columns, rows, map)?;
+    let marks = &mut marks[..map.len()];
+    mark(&faults, marks);
+    Ok(Marks {
+        nodes: Nodes {
+            columns,
+            rows,
+            map: marks,
+        },
+    })
 }
 
 // Mark blocks: writes 0 safe, 1 faulty, 2 unsafe for each node, and answers the number of blocks and that of rounds.
-pub fn mark_blocks(columns: u32, rows: u32, map: &[u8], out: &mut [u8]) -> Marked
+pub fn mark_blocks(columns: u32, rows: u32, map: &[u8], out: &mut [u8]) -> Result<Marked, Refusal>
     ensures { MarksBlocks columns rows map.now out.old result out.new }
 {
-    let checked = check_map(columns, rows, map);
-    if let Checked::Refused(why) = checked {
-        return Marked::Refused(why);
+    let nodes = check_map(columns, rows, map)?;
+    if out.len() < map.len() {
+        return Err(Refusal::Room);
     }
-    let n = map.len();
-    if out.len() < n {
-        return Marked::Refused(Refusal::Room);
-    }
-    let rounds = mark(columns, rows, map, &mut out[..n]);
-    Marked::Blocks(count_blocks(columns, rows, &out[..n]), rounds)
+    let out = &mut out[..map.len()];
+    let rounds = mark(&nodes, out);
+    let marks = Nodes {
+        columns,
+        rows,
+        map: out,
+    };
+    Ok(Marked {
+        blocks: count_blocks(&marks),
+        rounds,
+    })
 }
