@@ -5,7 +5,8 @@ use mathlib.Core.Bool.{true, false}
 use mathlib.Core.List.{List, [], ◌∷◌}
 use Prim.Native.Nat.{ℕ, ◌+◌, ◌*◌, ◌≤◌, ◌<◌}
 use native.Mathlib.Omega.{arith}
-use borrow.Author.Tests.{lt-ltb, le-ltb}
+use borrow.Author.Tests.{ltb-false}
+use Rattle.mesh.proofs.Bools.{or-none}
 use lib.ListN.{length, length-append}
 use Rattle.mesh.specs.Tests.{first}
 use Rattle.buffers.specs.Over.{over}
@@ -14,7 +15,7 @@ use Rattle.theory_legs.specs.declared.LegRefusal.TheVariants.{Room, NoLetter, To
 use Rattle.theory_legs.specs.Groups.{number_bytes}
 use Rattle.theory_legs.specs.Legs.{Leg}
 use Rattle.theory_legs.specs.Files.{leg_number, leg_bytes, file}
-use Rattle.theory_legs.specs.Converting.{refusal, some_other, too_long, legs_of, letter_tests, file_of, LettersToLegs}
+use Rattle.theory_legs.specs.Converting.{refusal, some_other, some_long, too_long, legs_of, letter_tests, file_of, LettersToLegs}
 use Rattle.theory_legs.proofs.Groups.{size_few}
 use Rattle.theory_legs.proofs.Refusals.{letters-numbered, fits-accepted}
 use Rattle.theory_legs.proofs.Promises.{refuses-as, refuses-room, wrote_as}
@@ -26,9 +27,12 @@ unfolding leg_bytes
 bytes-few [] = omega arith
 bytes-few (l ∷ ls) = omega (arith, length-append (number_bytes (leg_number l)) (leg_bytes ls), size_few (leg_number l), bytes-few ls)
 
-pub size_small : {xs : List ℕ} {m : Measured} → Measures xs m → m.legs ≤ 65535 → {size : ℕ} → size ≡ length (number_bytes m.legs) →
-    size + m.bytes ≤ 3 + 3 * 65535
-size_small {xs} {m} t few s = omega (arith, bytes-few (legs_of xs), t.counts, t.sizes, size_few m.legs)
+pub legs-few : {xs : List ℕ} {m : Measured} → Measures xs m → m.legs ≤ 65535
+unfolding too_long
+legs-few {xs} t = omega (arith, t.counts, ltb-false 65535 (length (legs_of xs)) (or-none (some_long (legs_of xs)) _ t.fits).1)
+
+pub size_small : {xs : List ℕ} {m : Measured} → Measures xs m → {size : ℕ} → size ≡ length (number_bytes m.legs) → size + m.bytes ≤ 3 + 3 * 65535
+size_small {xs} {m} t s = omega (arith, bytes-few (legs_of xs), legs-few t, t.counts, t.sizes, size_few m.legs)
 
 module _ (xs out : List ℕ) where
   pub answers-other : some_other xs ≡ true → LettersToLegs xs out (Err NoLetter) out
@@ -36,36 +40,22 @@ module _ (xs out : List ℕ) where
   answers-other e = refuses-as NoLetter (rw e)
 
   module _ (no_other : some_other xs ≡ false) where
-    too_long_lem : too_long (legs_of xs) ≡ true → LettersToLegs xs out (Err TooLong) out
+    pub answers-long : too_long (legs_of xs) ≡ true → LettersToLegs xs out (Err TooLong) out
     unfolding refusal letter_tests first
-    too_long_lem e = refuses-as TooLong (rw (no_other, e))
+    answers-long e = refuses-as TooLong (rw (no_other, e))
 
-    module _ {m : Measured} (t : Measures xs m) where
-      pub answers-long : m.long ≡ true → LettersToLegs xs out (Err TooLong) out
-      unfolding too_long
-      answers-long e = too_long_lem (rw (t.longs, e))
+    module _ {m : Measured} (t : Measures xs m) {size : ℕ} (s : size ≡ length (number_bytes m.legs)) where
+      sized : length (file_of xs) ≡ size + m.bytes
+      unfolding file_of file
+      sized = length-append (number_bytes (length (legs_of xs))) (leg_bytes (legs_of xs)) ∙ rw (t.counts, t.sizes, s)
 
-      module _ (short : m.long ≡ false) where
-        pub answers-many : 65535 < m.legs → LettersToLegs xs out (Err TooLong) out
-        unfolding too_long
-        answers-many h = too_long_lem (rw (t.longs, short, t.counts) (lt-ltb 65535 m.legs h))
+      pub answers-room : length out < size + m.bytes → LettersToLegs xs out (Err Room) out
+      answers-room = refuses-room (letters-numbered xs) (fits-accepted xs no_other t.fits) sized
 
-        module _ (few : m.legs ≤ 65535) {size : ℕ} (s : size ≡ length (number_bytes m.legs)) where
-          sized : length (file_of xs) ≡ size + m.bytes
-          unfolding file_of file
-          sized = length-append (number_bytes (length (legs_of xs))) (leg_bytes (legs_of xs)) ∙ rw (t.counts, t.sizes, s)
+      module _ (room : size + m.bytes ≤ length out) where
+        pub file-writable : FileWritable xs m.legs out
+        file-writable = record { no_other = no_other; fits = t.fits; counted = t.counts; room = rw sized room }
 
-          fits : too_long (legs_of xs) ≡ false
-          unfolding too_long
-          fits = rw (t.longs, short, t.counts) (le-ltb 65535 m.legs few)
-
-          pub answers-room : length out < size + m.bytes → LettersToLegs xs out (Err Room) out
-          answers-room = refuses-room (letters-numbered xs) (fits-accepted xs no_other fits) sized
-
-          module _ (room : size + m.bytes ≤ length out) where
-            pub file-writable : FileWritable xs m.legs out
-            file-writable = record { no_other = no_other; fits = fits; counted = t.counts; room = rw sized room }
-
-            pub answers-wrote : {after : List ℕ} → after ≡ over out 0 (file_of xs) → LettersToLegs xs out (Ok (size + m.bytes)) after
-            answers-wrote e =
-                wrote_as (letters-numbered xs) (fits-accepted xs no_other fits) sized room (e ∙ over-all out (file_of xs) (rw sized room))
+        pub answers-wrote : {after : List ℕ} → after ≡ over out 0 (file_of xs) → LettersToLegs xs out (Ok (size + m.bytes)) after
+        answers-wrote e =
+            wrote_as (letters-numbered xs) (fits-accepted xs no_other t.fits) sized room (e ∙ over-all out (file_of xs) (rw sized room))

@@ -1,19 +1,12 @@
 -- A run of equal letters is a leg. Assumes nothing.
-use Rattle.std.specs.Prelude.{Some, None}
-use mathlib.Core.Path.{◌≡◌, refl, sym, ◌∙◌}
-use mathlib.Core.Logic.{◌≢◌, inl, inr}
-use mathlib.Core.Bool.{Bool, true, false, not, cond}
-use mathlib.Core.List.{List, ◌∷◌, ◌++◌}
-use Prim.Native.Nat.{ℕ, zero, suc, ◌-◌, ◌<◌}
+use Rattle.std.proofs.Common.{◌≡◌, ◌≢◌, ℕ, zero, suc, ◌-◌, ◌<◌, Bool, true, false, ◌||◌, List, [], ◌∷◌, ◌++◌, length, get_or, drop, replicate, fold, Some, refl, sym, ◌∙◌, arith, drop-cons}
+use mathlib.Core.Logic.{inl, inr}
+use mathlib.Core.Bool.{or_assoc, or-false}
 use native.Mathlib.Decide.{dec_lt}
-use native.Mathlib.Omega.{arith}
-use borrow.Author.Tests.{ne_eqb}
-use lib.Dec.{eqb}
-use lib.ListN.{length, get_or, drop, replicate, drop_of_length-le}
-use lib.Seq.{drop-cons}
+use lib.ListN.{drop_of_length-le}
 use Rattle.mesh.specs.declared.Heading.{Heading}
-use Rattle.mesh.specs.declared.Heading.TheVariants.{East as E, North as N, South as S, West as W}
 use Rattle.mesh.specs.Headings.{letter, same, named}
+use Rattle.mesh.specs.Maps.{some}
 use Rattle.mesh.proofs.Bools.{value, true-false}
 use Rattle.mesh.proofs.Some.{none_passes}
 use Rattle.mesh.proofs.Headings.{letter-named, is-hop, is-other, name, same-heading}
@@ -27,14 +20,15 @@ use Rattle.theory_legs.proofs.Legs.{legs-run, turn-straight}
 unfoldable pub legs_from : List ℕ → ℕ → List Leg
 legs_from xs i = legs (hops_named (drop i xs))
 
--- none of the first three letters
-pub other_last : (x : ℕ) → x ≢ letter E → x ≢ letter N → x ≢ letter S → not (eqb x (letter W)) ≡ is_other (named x)
-unfolding named is_other
-other_last x e n s = rw (ne_eqb x _ e, ne_eqb x _ n, ne_eqb x _ s) (by (eqb x (letter W)))
-  where
-    by : (b : Bool) → not b ≡ is_other (cond b (Some W) None)
-    by true = refl
-    by false = refl
+-- all letters looked at, from any index on
+gathered-from : (i : ℕ) (b : Bool) (xs : List ℕ) → fold (λ other x. other || is_other (named x)) b xs ≡ b || some no_letter i xs
+unfolding some
+gathered-from i b [] = sym (or-false b)
+gathered-from i b (x ∷ xs) = gathered-from (suc i) (b || is_other (named x)) xs ∙ or_assoc b (is_other (named x)) (some no_letter (suc i) xs)
+
+pub gathered-other : (xs : List ℕ) → fold (λ other x. other || is_other (named x)) false xs ≡ some_other xs
+unfolding some_other
+gathered-other xs = gathered-from 0 false xs
 
 -- where all are letters, the one at index i is that of a heading
 pub record LetterAt (xs : List ℕ) (i : ℕ) : Type 0 where

@@ -12,9 +12,9 @@ pub record LegSize (n x : ℕ) : Type 0 where
   pub bytes : (h : Heading) → length (number_bytes (leg_number (leg h n))) ≡ x
   pub shorter : x ≤ n
 
--- what is measured of their legs
+-- what is measured of their legs, which are not too long
 pub record Measures (xs : List ℕ) (x : Measured) : Type 0 where
-  pub longs : some_long (legs_of xs) ≡ x.long
+  pub fits : too_long (legs_of xs) ≡ false
   pub counts : length (legs_of xs) ≡ x.legs
   pub sizes : length (leg_bytes (legs_of xs)) ≡ x.bytes
 

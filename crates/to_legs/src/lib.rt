@@ -1,56 +1,32 @@
 // Letters to legs (document 02, E3): all letters are looked through and their legs measured; once nothing is refused the file is written.
 #![tactic(auto)]
 
-ghost use Rattle.std.specs.Prelude.{◌≡◌, false, ◌||◌, ◌≤◌, ◌<◌, ◌+◌, ◌-◌, ◌*◌, length};
+ghost use Rattle.std.specs.Prelude.{◌≡◌, true, false, ◌≤◌, ◌<◌, ◌+◌, ◌-◌, ◌*◌, length, IfOk, IfErr};
 ghost use Rattle.mesh.specs.Headings.{named};
 ghost use Rattle.buffers.specs.Over.{over};
 ghost use Rattle.theory_legs.specs.Files.{leg_bytes};
-ghost use Rattle.theory_legs.specs.Converting.{is_other, some_other, legs_of, file_of, LettersToLegs};
+ghost use Rattle.theory_legs.specs.Converting.{is_other, some_other, too_long, legs_of, file_of, LettersToLegs};
+ghost use Rattle.theory_legs.specs.declared.LegRefusal.TheVariants.{TooLong};
 ghost use Rattle.to_legs.specs.Measured.{LegSize, Measures, LegsWritable, FileWritable};
 
 use groups::{number_size, put_number};
 use headings::letter_code;
 use runs::run_end;
-use theory_legs::{Converted, LegRefusal};
+use theory_legs::LegRefusal;
 
 // A byte is none of the four letters.
+#[tactic(auto, unfolding(mesh::specs::Headings::named, theory_legs::specs::Converting::is_other))]
 fn is_other(x: u8) -> bool
     ensures { result ≡ is_other (named x) }
 {
-    if x == b'E' {
-        return false;
-    }
-    if x == b'N' {
-        return false;
-    }
-    if x == b'S' {
-        return false;
-    }
-    x != b'W'
+    (x != b'E') & (x != b'N') & (x != b'S') & (x != b'W')
 }
 
-// Either.
-fn either(a: bool, b: bool) -> bool
-    ensures { result ≡ (a || b) }
-{
-    if a {
-        return true;
-    }
-    b
-}
-
-// Some byte is none of the four letters. No test ends the loop, so that many are looked at together.
+// Some byte is none of the four letters. No test ends the fold, so that many are looked at together.
 fn has_other(letters: &[u8]) -> bool
     ensures { result ≡ some_other letters.now }
 {
-    let n = letters.len();
-    let mut other = false;
-    let mut i = 0;
-    while i < n {
-        other = either(other, is_other(letters[i]));
-        i += 1;
-    }
-    other
+    letters.iter().fold(false, |other, x| other | is_other(*x))
 }
 
 // How many bytes a leg has, by its length.
@@ -59,39 +35,44 @@ fn leg_size(length: usize) -> usize
     ensures { LegSize length result }
 {
     if length <= 32 {
-        return 1;
+        1
+    } else if length <= 4096 {
+        2
+    } else {
+        3
     }
-    if length <= 4096 {
-        return 2;
-    }
-    3
 }
 
-// The legs of letters: whether one is over 16,384, how many there are and how many bytes they have.
+// How many legs letters have, and how many bytes these have.
 #[derive(Clone, Copy)]
 pub struct Measured {
-    pub long: bool,
     pub legs: usize,
     pub bytes: usize,
 }
 
-fn measure_legs(letters: &[u8]) -> Measured
+// The measures of the legs of letters, unless one is over 16,384 or there are over 65,535.
+fn measure_legs(letters: &[u8]) -> Result<Measured, LegRefusal>
     requires { some_other letters.now ≡ false }
-    ensures { Measures letters.now result }
+    ensures measured { IfOk result (λ m. Measures letters.now m) }
+    ensures long { IfErr result (λ why. (too_long (legs_of letters.now) ≡ true) × (why ≡ TooLong)) }
 {
     let n = letters.len();
     let mut i = 0;
-    let mut long = false;
     let mut legs: usize = 0;
     let mut bytes: usize = 0;
     while i < n {
         let end = run_end(letters, i);
-        long = either(long, 16384 < end - i);
+        if 16384 < end - i {
+            return Err(LegRefusal::TooLong);
+        }
         legs += 1;
         bytes += leg_size(end - i);
         i = end;
     }
-    Measured { long, legs, bytes }
+    if 65535 < legs {
+        return Err(LegRefusal::TooLong);
+    }
+    Ok(Measured { legs, bytes })
 }
 
 // A leg's number, by its length and its direction's code.
@@ -127,23 +108,17 @@ fn write_file(letters: &[u8], legs: u32, out: &mut [u8])
     write_legs(letters, first, out);
 }
 
-pub fn letters_to_legs(letters: &[u8], out: &mut [u8]) -> Converted
+pub fn letters_to_legs(letters: &[u8], out: &mut [u8]) -> Result<usize, LegRefusal>
     ensures { LettersToLegs letters.now out.old result out.new }
 {
     if has_other(letters) {
-        return Converted::Refused(LegRefusal::NoLetter);
+        return Err(LegRefusal::NoLetter);
     }
-    let measured = measure_legs(letters);
-    if measured.long {
-        return Converted::Refused(LegRefusal::TooLong);
-    }
-    if 65535 < measured.legs {
-        return Converted::Refused(LegRefusal::TooLong);
-    }
+    let measured = measure_legs(letters)?;
     let bytes = number_size(measured.legs) + measured.bytes;
     if out.len() < bytes {
-        return Converted::Refused(LegRefusal::Room);
+        return Err(LegRefusal::Room);
     }
     write_file(letters, measured.legs as u32, out);
-    Converted::Wrote(bytes)
+    Ok(bytes)
 }

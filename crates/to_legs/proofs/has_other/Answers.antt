@@ -1,16 +1,12 @@
--- The letters before i are looked at. Assumes nothing.
-use mathlib.Core.Path.{refl}
-use native.Mathlib.Omega.{arith}
-use Rattle.mesh.proofs.Some.{gathered_none, gathered-more, gathered-all}
-use Rattle.theory_legs.specs.Converting.{some_other}
+-- The letters are looked at from the front. Assumes nothing.
+use Rattle.std.proofs.Common.{◌≡◌, false, ◌||◌, fold, ◌∙◌, arith}
+use Rattle.std.proofs.lemmas.Grind.{common_steps}
+use Rattle.mesh.specs.Headings.{named}
+use Rattle.theory_legs.specs.Converting.{is_other}
+use Rattle.to_legs.proofs.Letters.{gathered-other}
 use Rattle.to_legs.proofs.has_other.Goals as goal
 
-pub loop-i-init : goal.loop-i-init
-loop-i-init c = gathered_none _ refl
-
-pub loop-i-preserved : goal.loop-i-preserved
-loop-i-preserved c = gathered-more _ c.loop-i.invariant (omega arith) (rw (← c.is_other.ensures) c.either-other.ensures)
-
 pub returns : goal.returns
-unfolding some_other
-returns c = gathered-all _ c.loop-i.invariant (omega arith)
+returns c =
+    let e : c.fold.result ≡ fold (λ other x. other || is_other (named x)) false c.args.letters.now = grind (arith, common_steps) in
+    e ∙ gathered-other c.args.letters.now

@@ -1,37 +1,35 @@
 -- Letters, then the measures of their legs, then the file. Assumes nothing.
-use mathlib.Core.Path.{sym, ◌∙◌}
-use native.Mathlib.Omega.{arith}
-use Rattle.to_legs.proofs.Answering.{answers-other, answers-long, answers-many, size_small, answers-room, file-writable, answers-wrote}
+use Rattle.std.proofs.Common.{arith, sym, ◌∙◌}
+use Rattle.std.proofs.lemmas.Result.{err_from_is_err_and}
+use Rattle.to_legs.proofs.Answering.{legs-few, size_small, answers-other, answers-long, answers-room, file-writable, answers-wrote}
 use Rattle.to_legs.proofs.letters_to_legs.Goals as goal
 
 pub returns-then-has_other : goal.returns-then-has_other
 returns-then-has_other c = answers-other _ _ (sym c.has_other.ensures ∙ c.if-has_other.true)
 
-pub measure_legs-measured-requires : goal.measure_legs-measured-requires
-measure_legs-measured-requires c = sym c.has_other.ensures ∙ c.if-has_other.false
-
-pub returns-then-measured : goal.returns-then-measured
-returns-then-measured c = answers-long _ _ (sym c.has_other.ensures ∙ c.if-has_other.false) c.measure_legs-measured.ensures c.if-measured.true
-
-pub returns-then-measured-gt65535 : goal.returns-then-measured-gt65535
-returns-then-measured-gt65535 c =
-    answers-many _ _ (sym c.has_other.ensures ∙ c.if-has_other.false) c.measure_legs-measured.ensures c.if-measured.false
-    c.if-measured-gt65535.true
+pub returns-in_err-measured : goal.returns-in_err-measured
+returns-in_err-measured c =
+    let p = err_from_is_err_and c.from_residual.result c.from_residual.ensures.1 in
+    let (long, e) = c.in_err-measured.ensures.long in
+    rw (p.1, p.2, e) (answers-long _ _ (sym c.has_other.ensures ∙ c.if-has_other.false) long)
 
 pub overflow_add-bytes : goal.overflow_add-bytes
-overflow_add-bytes c = omega (arith, size_small c.measure_legs-measured.ensures c.if-measured-gt65535.false c.number_size.ensures)
+overflow_add-bytes c = omega (arith, size_small c.in_ok-measured.ensures.measured c.number_size.ensures)
 
 pub returns-then-out-bytes : goal.returns-then-out-bytes
 returns-then-out-bytes c =
-    answers-room _ _ (sym c.has_other.ensures ∙ c.if-has_other.false) c.measure_legs-measured.ensures c.if-measured.false
-    c.if-measured-gt65535.false c.number_size.ensures c.if-out-bytes.true
+    answers-room _ _ (sym c.has_other.ensures ∙ c.if-has_other.false) c.in_ok-measured.ensures.measured c.number_size.ensures
+    c.if-out-bytes.true
+
+pub overflow_cast-measured : goal.overflow_cast-measured
+overflow_cast-measured c = omega (arith, legs-few c.in_ok-measured.ensures.measured)
 
 pub write_file-requires : goal.write_file-requires
 write_file-requires c =
-    file-writable _ _ (sym c.has_other.ensures ∙ c.if-has_other.false) c.measure_legs-measured.ensures c.if-measured.false
-    c.if-measured-gt65535.false c.number_size.ensures c.if-out-bytes.false
+    file-writable _ _ (sym c.has_other.ensures ∙ c.if-has_other.false) c.in_ok-measured.ensures.measured c.number_size.ensures
+    c.if-out-bytes.false
 
 pub returns : goal.returns
 returns c =
-    answers-wrote _ _ (sym c.has_other.ensures ∙ c.if-has_other.false) c.measure_legs-measured.ensures c.if-measured.false
-    c.if-measured-gt65535.false c.number_size.ensures c.if-out-bytes.false c.write_file.ensures
+    answers-wrote _ _ (sym c.has_other.ensures ∙ c.if-has_other.false) c.in_ok-measured.ensures.measured c.number_size.ensures
+    c.if-out-bytes.false c.write_file.ensures
