@@ -1,12 +1,7 @@
--- Refusal 24, test by test. Assumes nothing.
-use mathlib.Core.Path.{◌≡◌, sym}
-use mathlib.Core.Logic.{inl, inr}
-use mathlib.Core.Bool.{true, false}
-use Prim.Native.Nat.{ℕ, ◌≤◌, ◌<◌}
+-- Refusal 24, as it is tested. Assumes nothing.
+use Rattle.std.proofs.Common.{◌≡◌, inl, inr, true, false, not, ◌||◌, ◌&&◌, ℕ, ◌≤◌, ◌<◌, ltb, eqb, arith}
+use Rattle.std.proofs.lemmas.Grind.{common_steps}
 use native.Mathlib.Decide.{dec_lt}
-use native.Mathlib.Omega.{arith}
-use borrow.Author.Tests.{ltb-true, lt-ltb}
-use lib.Dec.{ltb}
 use Rattle.mesh.proofs.Bools.{true-false, bool-ext}
 use Rattle.theory_draw.specs.Drawing.{bad_draws}
 use Rattle.theory_draw.specs.Claims.{Undrawable}
@@ -24,25 +19,13 @@ module _ (columns rows draws : ℕ) where
         | no w ↦ elim (dec_lt rows 3) [ yes l ↦ true-false (refused (inr (h, inr l))) good | no l ↦ (omega arith, omega arith) ]
       ]
 
-  pub no-draws : draws ≡ 0 → false ≡ bad_draws columns rows draws
-  unfolding bad_draws
-  no-draws e = rw e
+  told : Undrawable columns rows draws → (ltb 1000 draws || (not (eqb draws 0) && (ltb columns 5 || ltb rows 3))) ≡ true
+  told (inl h) = grind (arith, common_steps)
+  told (inr (h, inl w)) = grind (arith, common_steps)
+  told (inr (h, inr l)) = grind (arith, common_steps)
 
-  pub many-draws : 1000 < draws → true ≡ bad_draws columns rows draws
-  many-draws h = sym (refused (inl h))
+  untold : (ltb 1000 draws || (not (eqb draws 0) && (ltb columns 5 || ltb rows 3))) ≡ true → Undrawable columns rows draws
+  untold t = grind (arith, common_steps)
 
-  module _ (some : draws ≡ 0 → ⊥) where
-    pub narrow : columns < 5 → true ≡ bad_draws columns rows draws
-    narrow h = sym (refused (inr (omega (arith, some), inl h)))
-
-    pub low : draws ≤ 1000 → 5 ≤ columns → ltb rows 3 ≡ bad_draws columns rows draws
-    low few wide =
-        bool-ext _ _
-        (λ e. refused (inr (omega (arith, some), inr (ltb-true rows 3 e))))
-        (λ e. lt-ltb rows 3 (left ((refusal-24 columns rows draws).0 e)))
-      where
-        -- the one part that these leave
-        left : Undrawable columns rows draws → rows < 3
-        left (inl h) = absurd (omega arith)
-        left (inr (h, inl w)) = absurd (omega arith)
-        left (inr (h, inr l)) = l
+  pub bad_draws_tested : bad_draws columns rows draws ≡ (ltb 1000 draws || (not (eqb draws 0) && (ltb columns 5 || ltb rows 3)))
+  bad_draws_tested = bool-ext _ _ (λ t. told ((refusal-24 columns rows draws).0 t)) (λ t. refused (untold t))

@@ -9,8 +9,6 @@ use lib.Dec.{eqb}
 use lib.ListN.{length, get_or, replicate}
 use Rattle.mesh.specs.declared.Place.{Place}
 use Rattle.mesh.proofs.Index.{few-nodes}
-use Rattle.buffers.specs.Over.{over}
-use Rattle.buffers.proofs.Repeat.{over-same}
 use Rattle.theory_draw.specs.Draws.{next_state, state_after, place_count, picked_place, drawn_places, index_of, fault_map, is_among, distinct}
 use Rattle.theory_draw.specs.Drawing.{drawn_map, drawn_faults}
 use Rattle.theory_draw.specs.Claims.{Allowed}
@@ -29,10 +27,10 @@ pub record Drawing (columns rows seed n i state faults : ℕ) (map : List ℕ) :
 
 -- every node is sound
 pub drawing-none : {columns rows seed n : ℕ} (before : List ℕ) {map : List ℕ} → length before ≡ columns * rows →
-    map ≡ over before 0 (replicate (length before) 0) → Drawing columns rows seed n 0 seed 0 map
+    map ≡ replicate (length before) 0 → Drawing columns rows seed n 0 seed 0 map
 unfolding state_after drawn_faults drawn_map drawn_places distinct fault_map
 drawing-none before size cleared =
-    record { within = omega arith; state-is = refl; faults-are = refl; map_is = cleared ∙ over-same before 0 ∙ rw size }
+    record { within = omega arith; state-is = refl; faults-are = refl; map_is = cleared ∙ rw size }
 
 -- a draw adds one fault at most
 pub adds_one : {columns : ℕ} {p : Place} {map : List ℕ} {x : ℕ} {after : List ℕ} → SetsFault columns p map x after → x ≤ 1

@@ -1,3 +1,2 @@
 pub mod BadDraws
 pub mod Drawing
-pub mod Refusals
