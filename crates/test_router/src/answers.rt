@@ -1,7 +1,6 @@
 // What routing is to answer on a mesh whose map is not refused, and the bound on its hops.
-use crate::areas::{Area, area_at, is_within};
-use crate::trips::{Trip, after, is_forbidden, is_shut, next_hop};
-use std::num::wrapping_add_u32;
+use crate::areas::{Area, is_within};
+use crate::trips::Trip;
 
 #[derive(Clone, Copy)]
 pub struct Size {
@@ -9,113 +8,69 @@ pub struct Size {
     pub rows: u8,
 }
 
-// A refusal is answered as this and its number.
-const REFUSED: u32 = 65536;
-
-pub fn is_off(size: Size, row: u8, column: u8) -> bool {
-    if row < size.rows {
-        return size.columns <= column;
+impl Size {
+    pub fn has(self, row: u8, column: u8) -> bool {
+        row < self.rows && column < self.columns
     }
-    true
 }
 
-pub fn is_over(t: Trip) -> bool {
-    if t.row == t.to_row {
-        return t.column == t.to_column;
+// Refusals 6 to 8, by their numbers. A place in no box has a node of one near in its row if it is in the box grown by two columns each way.
+fn check(size: Size, boxes: &[Area], t: Trip) -> Result<(), u32> {
+    if !size.has(t.row, t.column) || !size.has(t.to_row, t.to_column) {
+        return Err(6);
     }
-    false
+    if is_within(boxes, t.row, t.column, 0, 0) || is_within(boxes, t.to_row, t.to_column, 0, 0) {
+        return Err(7);
+    }
+    if is_within(boxes, t.to_row, t.to_column, 0, 2) {
+        return Err(8);
+    }
+    Ok(())
 }
 
-// Whether the packet is off the mesh or in a block.
-fn is_closed(size: Size, list: &[u8; 4096], n: usize, t: Trip) -> bool {
-    if is_off(size, t.row, t.column) {
-        return true;
-    }
-    is_shut(list, n, t)
-}
-
-// A route of so many hops, with room for so many letters.
-fn arrive(hops: u32, room: usize) -> u32 {
-    if room < hops as usize {
-        return REFUSED + 10;
-    }
-    hops
-}
-
-// Refusals 6 to 8, or 0. A place in no box has a node of one near in its row if it is in the box grown by two columns each way.
-fn refuse(size: Size, list: &[u8; 4096], n: usize, t: Trip) -> u32 {
-    if is_off(size, t.row, t.column) {
-        return REFUSED + 6;
-    }
-    if is_off(size, t.to_row, t.to_column) {
-        return REFUSED + 6;
-    }
-    if is_within(list, n, t.row, t.column, 0, 0) {
-        return REFUSED + 7;
-    }
-    if is_within(list, n, t.to_row, t.to_column, 0, 0) {
-        return REFUSED + 7;
-    }
-    if is_within(list, n, t.to_row, t.to_column, 0, 2) {
-        return REFUSED + 8;
-    }
-    0
-}
-
-// The number of hops, or the refusal. Walks the hops by the rules and writes their letters, also if there is no room for them.
+// The number of hops, or the refusal's, 0 if there is no end to the hops. Walks the hops by the rules and writes their letters, also if there is
+// no room for them.
 pub fn answer_route(
     size: Size,
-    list: &[u8; 4096],
-    n: usize,
+    boxes: &[Area],
     trip: Trip,
     room: usize,
     letters: &mut [u8; 4096],
-) -> u32 {
-    let refused = refuse(size, list, n, trip);
-    if refused != 0 {
-        return refused;
-    }
+) -> Result<u32, u32> {
+    check(size, boxes, trip)?;
     let mut t = trip;
-    let mut last: u8 = 0;
-    let mut i: u32 = 0;
-    while i < 4096 {
-        if is_over(t) {
-            return arrive(i, room);
+    let mut last = None;
+    for hops in 0..4096u32 {
+        if t.is_over() {
+            return if room < hops as usize {
+                Err(10)
+            } else {
+                Ok(hops)
+            };
         }
-        let h = next_hop(list, n, t, last);
-        if is_forbidden(t, last, h) {
-            return REFUSED + 9;
+        let h = t.next_hop(boxes, last);
+        if t.is_forbidden(last, h) {
+            return Err(9);
         }
-        t = after(t, h);
-        if is_closed(size, list, n, t) {
-            return REFUSED + 9;
+        t = t.after(h);
+        if !size.has(t.row, t.column) || t.is_shut(boxes) {
+            return Err(9);
         }
-        letters[i as usize] = h;
-        last = h;
-        i += 1;
+        letters[hops as usize] = h;
+        last = Some(h);
     }
-    REFUSED
-}
-
-fn distance(x: u8, y: u8) -> u8 {
-    if x < y {
-        return y - x;
-    }
-    x - y
+    Err(0)
 }
 
 // Twice (width + height + 1).
 fn detour(a: Area) -> u32 {
-    2 * ((distance(a.west, a.east) as u32) + (distance(a.south, a.north) as u32) + 3)
+    2 * (u32::from(a.west.abs_diff(a.east)) + u32::from(a.south.abs_diff(a.north)) + 3)
 }
 
 // The bound of demand 3: the distances, 2, and the detour of each box.
-pub fn bound(list: &[u8; 4096], n: usize, t: Trip) -> u32 {
-    let mut sum = (distance(t.row, t.to_row) as u32) + (distance(t.column, t.to_column) as u32) + 2;
-    let mut i = 0;
-    while i < n {
-        sum = wrapping_add_u32(sum, detour(area_at(list, i)));
-        i += 1;
-    }
-    sum
+pub fn bound(boxes: &[Area], t: Trip) -> u32 {
+    let hops = u32::from(t.row.abs_diff(t.to_row)) + u32::from(t.column.abs_diff(t.to_column)) + 2;
+    boxes
+        .iter()
+        .fold(hops, |sum, a| sum.wrapping_add(detour(*a)))
 }

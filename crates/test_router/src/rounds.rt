@@ -1,71 +1,54 @@
 // The rounds of a marking by hand: each bad node has the number of the round that made it so, a fault 0. A round looks only at nodes of earlier
 // ones, so it needs no second map and may go over its own in any order. There are 64 places for each row.
-use crate::answers::{Size, is_off};
-use std::num::wrapping_add_u8;
+use crate::answers::Size;
 
 // Of a node that no round has made bad.
 const SAFE: u16 = 65535;
 
 fn index(row: u8, column: u8) -> usize {
-    64 * (row % 64) as usize + (column % 64) as usize
+    64 * usize::from(row % 64) + usize::from(column % 64)
 }
 
 // Whether the place is a bad node of an earlier round.
 fn is_older(size: Size, ages: &[u16; 4096], row: u8, column: u8, round: u16) -> bool {
-    if is_off(size, row, column) {
-        return false;
-    }
-    ages[index(row, column) % 4096] < round
+    size.has(row, column) && ages[index(row, column) % 4096] < round
 }
 
 // Whether this round makes the place unsafe: bad nodes on both sides of it in its row, or one next to it in its column and one in its row, at
 // most two columns away.
 fn turns(size: Size, ages: &[u16; 4096], row: u8, column: u8, round: u16) -> bool {
-    let east = is_older(size, ages, row, wrapping_add_u8(column, 1), round);
-    let west = is_older(size, ages, row, wrapping_add_u8(column, 255), round);
-    if east && west {
-        return true;
-    }
-    let north = is_older(size, ages, wrapping_add_u8(row, 1), column, round);
-    let south = is_older(size, ages, wrapping_add_u8(row, 255), column, round);
-    if !north && !south {
-        return false;
-    }
-    if east || west {
-        return true;
-    }
-    if is_older(size, ages, row, wrapping_add_u8(column, 2), round) {
-        return true;
-    }
-    is_older(size, ages, row, wrapping_add_u8(column, 254), round)
+    let is_bad = |rows: u8, columns: u8| {
+        is_older(
+            size,
+            ages,
+            row.wrapping_add(rows),
+            column.wrapping_add(columns),
+            round,
+        )
+    };
+    let east = is_bad(0, 1);
+    let west = is_bad(0, 255);
+    (east && west)
+        || ((is_bad(1, 0) || is_bad(255, 0)) && (east || west || is_bad(0, 2) || is_bad(0, 254)))
 }
 
-// Makes node i unsafe if this round does, and says so.
-fn make_unsafe(size: Size, ages: &mut [u16; 4096], i: usize, round: u16) -> bool {
-    let row = (i / 64 % 256) as u8;
-    let column = (i % 64) as u8;
-    if is_off(size, row, column) {
-        return false;
+// Makes a node unsafe if this round does, and says so.
+fn make_unsafe(size: Size, ages: &mut [u16; 4096], row: u8, column: u8, round: u16) -> bool {
+    let i = index(row, column) % 4096;
+    let is_new = ages[i] == SAFE && turns(size, ages, row, column, round);
+    if is_new {
+        ages[i] = round;
     }
-    if ages[i % 4096] != SAFE {
-        return false;
-    }
-    if !turns(size, ages, row, column, round) {
-        return false;
-    }
-    ages[i % 4096] = round;
-    true
+    is_new
 }
 
 // One round. Says whether it changes anything.
 fn make_round(size: Size, ages: &mut [u16; 4096], round: u16) -> bool {
     let mut any = false;
-    let mut i = 0;
-    while i < 4096 {
-        if make_unsafe(size, ages, i, round) {
-            any = true;
+    for row in 0..size.rows {
+        for column in 0..size.columns {
+            any |= make_unsafe(size, ages, row, column, round);
         }
-        i += 1;
     }
     any
 }
@@ -75,13 +58,11 @@ fn set_faults(columns: u8, map: &[u8; 4096], ages: &mut [u16; 4096]) {
     if columns == 0 {
         return;
     }
-    let n = columns as usize;
-    let mut i = 0;
-    while i < 4096 {
-        if map[i] == 1 {
+    let n = usize::from(columns);
+    for (i, x) in map.iter().enumerate() {
+        if *x == 1 {
             ages[index((i / n % 256) as u8, (i % n % 256) as u8) % 4096] = 0;
         }
-        i += 1;
     }
 }
 
@@ -89,12 +70,10 @@ fn set_faults(columns: u8, map: &[u8; 4096], ages: &mut [u16; 4096]) {
 pub fn count_rounds(size: Size, map: &[u8; 4096]) -> u32 {
     let mut ages = [SAFE; 4096];
     set_faults(size.columns, map, &mut ages);
-    let mut round: u16 = 1;
-    while round < 4098 {
+    for round in 1..4098 {
         if !make_round(size, &mut ages, round) {
-            return round as u32;
+            return u32::from(round);
         }
-        round += 1;
     }
     0
 }

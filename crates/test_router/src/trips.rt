@@ -1,6 +1,5 @@
-// The hop rules and the turn rules, letter by letter. The last hop is a letter too, 0 if there is none.
-use crate::areas::is_within;
-use std::num::{wrapping_add_u8, wrapping_sub_u8};
+// The hop rules and the turn rules, letter by letter. The last hop is a letter too, if there is one.
+use crate::areas::{Area, is_within};
 
 // Where a packet is and where it goes, on network 1 or 2.
 #[derive(Clone, Copy)]
@@ -12,37 +11,6 @@ pub struct Trip {
     pub to_column: u8,
 }
 
-// The trip after a hop.
-pub fn after(t: Trip, h: u8) -> Trip {
-    let mut next = t;
-    match h {
-        b'E' => next.column = wrapping_add_u8(t.column, 1),
-        b'N' => next.row = wrapping_add_u8(t.row, 1),
-        b'S' => next.row = wrapping_sub_u8(t.row, 1),
-        _ => next.column = wrapping_sub_u8(t.column, 1),
-    }
-    next
-}
-
-// Whether the packet is in a block.
-pub fn is_shut(list: &[u8; 4096], n: usize, t: Trip) -> bool {
-    is_within(list, n, t.row, t.column, 0, 0)
-}
-
-fn side(t: Trip) -> u8 {
-    if t.column < t.to_column {
-        return b'E';
-    }
-    b'W'
-}
-
-fn toward(t: Trip) -> u8 {
-    if t.row < t.to_row {
-        return b'N';
-    }
-    b'S'
-}
-
 fn opposite(h: u8) -> u8 {
     match h {
         b'E' => b'W',
@@ -52,116 +20,125 @@ fn opposite(h: u8) -> u8 {
     }
 }
 
-fn is_upright(h: u8) -> bool {
-    if h == b'N' {
-        return true;
+impl Trip {
+    pub fn is_over(self) -> bool {
+        self.row == self.to_row && self.column == self.to_column
     }
-    h == b'S'
-}
 
-// Whether the packet's column is odd; on network 2, where odd and even are exchanged, whether it is even.
-fn is_odd(t: Trip) -> bool {
-    if t.network == 2 {
-        return t.column % 2 == 0;
-    }
-    t.column % 2 == 1
-}
-
-// Odd columns for a packet going east, even ones for a packet going west.
-fn is_own(t: Trip, h: u8) -> bool {
-    if h == b'E' {
-        return is_odd(t);
-    }
-    !is_odd(t)
-}
-
-// Whether the packet is stopped: the next node to the side is in a block, or the second from a column of its own.
-fn is_stopped(list: &[u8; 4096], n: usize, t: Trip) -> bool {
-    let h = side(t);
-    let next = after(t, h);
-    if is_shut(list, n, next) {
-        return true;
-    }
-    if is_own(t, h) {
-        return is_shut(list, n, after(next, h));
-    }
-    false
-}
-
-// Rules 4 and 6: toward the destination's row from a column of its own, else on.
-fn hop_level(list: &[u8; 4096], n: usize, t: Trip, on: u8) -> u8 {
-    let h = toward(t);
-    if is_own(t, on) {
-        if !is_shut(list, n, after(t, h)) {
-            return h;
+    // The trip after a hop.
+    pub fn after(self, h: u8) -> Trip {
+        match h {
+            b'E' => Trip {
+                column: self.column.wrapping_add(1),
+                ..self
+            },
+            b'N' => Trip {
+                row: self.row.wrapping_add(1),
+                ..self
+            },
+            b'S' => Trip {
+                row: self.row.wrapping_sub(1),
+                ..self
+            },
+            _ => Trip {
+                column: self.column.wrapping_sub(1),
+                ..self
+            },
         }
     }
-    on
-}
 
-// Rules 2 and 3: to the side, or if stopped on in the column, north if the last hop was not in it.
-fn hop_aside(list: &[u8; 4096], n: usize, t: Trip, last: u8) -> u8 {
-    if !is_stopped(list, n, t) {
-        return side(t);
+    // Whether the packet is in a block.
+    pub fn is_shut(self, boxes: &[Area]) -> bool {
+        is_within(boxes, self.row, self.column, 0, 0)
     }
-    if is_upright(last) {
-        return last;
-    }
-    b'N'
-}
 
-// The hop by the rules of a packet that is not at its destination.
-pub fn next_hop(list: &[u8; 4096], n: usize, t: Trip, last: u8) -> u8 {
-    if t.row == t.to_row {
-        return hop_aside(list, n, t, last);
-    }
-    if last == b'E' {
-        return hop_level(list, n, t, b'E');
-    }
-    if !is_upright(last) {
-        return hop_level(list, n, t, b'W');
-    }
-    if last != toward(t) {
-        return hop_aside(list, n, t, last);
-    }
-    // rule 5
-    if is_shut(list, n, after(t, last)) {
-        return b'W';
-    }
-    last
-}
-
-pub fn is_reversal(last: u8, h: u8) -> bool {
-    last == opposite(h)
-}
-
-// The rule of document 001 about turns from E to this letter, and from it to W; 0 if there is none.
-fn rule_on(h: u8) -> u32 {
-    match h {
-        b'N' => 1,
-        b'S' => 2,
-        _ => 0,
-    }
-}
-
-// The rule that a turn breaks, or 0: EN and ES are forbidden in even columns, NW and SW in odd ones.
-pub fn broken_rule(t: Trip, last: u8, h: u8) -> u32 {
-    if !is_odd(t) {
-        if last == b'E' {
-            return rule_on(h);
+    fn side(self) -> u8 {
+        if self.column < self.to_column {
+            b'E'
+        } else {
+            b'W'
         }
-        return 0;
     }
-    if h == b'W' {
-        return rule_on(last);
+
+    fn toward(self) -> u8 {
+        if self.row < self.to_row { b'N' } else { b'S' }
     }
-    0
+
+    // Whether the packet's column is odd; on network 2, where odd and even are exchanged, whether it is even.
+    fn is_odd(self) -> bool {
+        (self.column % 2 == 1) != (self.network == 2)
+    }
+
+    // Odd columns for a packet going east, even ones for a packet going west.
+    fn is_own(self, h: u8) -> bool {
+        self.is_odd() == (h == b'E')
+    }
+
+    // Whether the packet is stopped: the next node to the side is in a block, or the second from a column of its own.
+    fn is_stopped(self, boxes: &[Area]) -> bool {
+        let h = self.side();
+        let next = self.after(h);
+        next.is_shut(boxes) || (self.is_own(h) && next.after(h).is_shut(boxes))
+    }
+
+    // Rules 4 and 6: toward the destination's row from a column of its own, else on.
+    fn hop_level(self, boxes: &[Area], on: u8) -> u8 {
+        let h = self.toward();
+        if self.is_own(on) && !self.after(h).is_shut(boxes) {
+            h
+        } else {
+            on
+        }
+    }
+
+    // Rules 2 and 3: to the side, or if stopped on in the column, north if the last hop was not in it.
+    fn hop_aside(self, boxes: &[Area], last: Option<u8>) -> u8 {
+        if !self.is_stopped(boxes) {
+            self.side()
+        } else if last == Some(b'S') {
+            b'S'
+        } else {
+            b'N'
+        }
+    }
+
+    // Rule 5: on in the column, toward the destination's row.
+    fn hop_on(self, boxes: &[Area], h: u8) -> u8 {
+        if self.after(h).is_shut(boxes) {
+            b'W'
+        } else {
+            h
+        }
+    }
+
+    // The hop by the rules of a packet that is not at its destination.
+    pub fn next_hop(self, boxes: &[Area], last: Option<u8>) -> u8 {
+        if self.row == self.to_row {
+            return self.hop_aside(boxes, last);
+        }
+        match last {
+            Some(b'E') => self.hop_level(boxes, b'E'),
+            Some(h @ (b'N' | b'S')) if h == self.toward() => self.hop_on(boxes, h),
+            Some(b'N' | b'S') => self.hop_aside(boxes, last),
+            _ => self.hop_level(boxes, b'W'),
+        }
+    }
+
+    // The rule of document 001 that a turn breaks: EN and ES are forbidden in even columns, NW and SW in odd ones.
+    pub fn broken_rule(self, last: Option<u8>, h: u8) -> Option<u32> {
+        match (self.is_odd(), last, h) {
+            (false, Some(b'E'), b'N') | (true, Some(b'N'), b'W') => Some(1),
+            (false, Some(b'E'), b'S') | (true, Some(b'S'), b'W') => Some(2),
+            _ => None,
+        }
+    }
+
+    // Whether a hop reverses, or breaks a rule.
+    pub fn is_forbidden(self, last: Option<u8>, h: u8) -> bool {
+        is_reversal(last, h) || self.broken_rule(last, h).is_some()
+    }
 }
 
-// Whether a hop reverses, or breaks a rule.
-pub fn is_forbidden(t: Trip, last: u8, h: u8) -> bool {
-    if is_reversal(last, h) {
-        return true;
-    }
-    broken_rule(t, last, h) != 0
+pub fn is_reversal(last: Option<u8>, h: u8) -> bool {
+    last == Some(opposite(h))
 }

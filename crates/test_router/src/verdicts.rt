@@ -1,81 +1,53 @@
 // What judging is to say of a hand-in, on a mesh whose map is not refused and between places that are outside blocks.
-use crate::answers::{Size, is_off, is_over};
-use crate::trips::{Trip, after, broken_rule, is_reversal, is_shut};
+use crate::answers::Size;
+use crate::areas::Area;
+use crate::trips::{Trip, is_reversal};
 
-// 0 passed, or the number of what is wrong; the length, or the index of the wrong letter.
-#[derive(Clone, Copy)]
-pub struct Verdict {
+// The number of what is wrong, and the index of the wrong letter, or the length.
+#[derive(Clone, Copy, PartialEq, Eq)]
+pub struct Wrong {
     pub number: u32,
     pub index: usize,
 }
 
-fn is_letter(h: u8) -> bool {
-    match h {
-        b'E' | b'N' | b'S' | b'W' => true,
-        _ => false,
+// What is wrong with a letter, by its number.
+fn judge_letter(size: Size, boxes: &[Area], t: Trip, last: Option<u8>, h: u8) -> Result<(), u32> {
+    if !matches!(h, b'E' | b'N' | b'S' | b'W') {
+        return Err(11);
     }
-}
-
-// The number of the rule that a turn breaks, or 0.
-fn turn_number(t: Trip, last: u8, h: u8) -> u32 {
-    match broken_rule(t, last, h) {
-        0 => 0,
-        1 => 14,
-        _ => 17,
-    }
-}
-
-// The number of what is wrong with a letter, or 0.
-fn mistake(size: Size, list: &[u8; 4096], n: usize, t: Trip, last: u8, h: u8) -> u32 {
-    if !is_letter(h) {
-        return 11;
-    }
-    let next = after(t, h);
-    if is_off(size, next.row, next.column) {
-        return 12;
+    let next = t.after(h);
+    if !size.has(next.row, next.column) {
+        return Err(12);
     }
     if is_reversal(last, h) {
-        return 13;
+        return Err(13);
     }
-    let turned = turn_number(t, last, h);
-    if turned != 0 {
-        return turned;
+    match t.broken_rule(last, h) {
+        Some(1) => Err(14),
+        Some(_) => Err(17),
+        None if next.is_shut(boxes) => Err(15),
+        None => Ok(()),
     }
-    if is_shut(list, n, next) {
-        return 15;
-    }
-    0
 }
 
-// The letters in turn.
+// The letters in turn: their number if they pass.
 pub fn judge_letters(
     size: Size,
-    list: &[u8; 4096],
-    n: usize,
+    boxes: &[Area],
     trip: Trip,
     letters: &[u8],
-) -> Verdict {
+) -> Result<usize, Wrong> {
     let mut t = trip;
-    let mut last: u8 = 0;
-    let mut i = 0;
-    while i < letters.len() {
-        let h = letters[i];
-        let number = mistake(size, list, n, t, last, h);
-        if number != 0 {
-            return Verdict { number, index: i };
-        }
-        t = after(t, h);
-        last = h;
-        i += 1;
+    let mut last = None;
+    for (index, h) in letters.iter().enumerate() {
+        judge_letter(size, boxes, t, last, *h).map_err(|number| Wrong { number, index })?;
+        t = t.after(*h);
+        last = Some(*h);
     }
-    if is_over(t) {
-        return Verdict {
-            number: 0,
-            index: i,
-        };
-    }
-    Verdict {
-        number: 16,
-        index: i,
+    let index = letters.len();
+    if t.is_over() {
+        Ok(index)
+    } else {
+        Err(Wrong { number: 16, index })
     }
 }
