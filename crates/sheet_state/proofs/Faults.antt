@@ -1,13 +1,8 @@
 -- The mesh line makes a map without faults, and a fault line adds one: neither leaves room for refusals 1 to 4. Assumes nothing.
-use mathlib.Core.Path.{◌≡◌, refl, sym, ◌∙◌}
-use mathlib.Core.Bool.{Bool, false}
-use mathlib.Core.List.{List}
-use Prim.Native.Nat.{ℕ, ◌+◌, ◌*◌, ◌≤◌, ◌<◌}
-use native.Mathlib.Omega.{arith}
-use borrow.Author.Tests.{lt-ltb}
-use lib.Dec.{ltb}
-use lib.ListN.{length, set, take, replicate, length-set, length-replicate}
-use lib.Seq.{take-set-lt, take_at}
+use Rattle.std.proofs.Common.{◌≡◌, refl, sym, ◌∙◌, Bool, false, List, ◌++◌, ℕ, ◌+◌, ◌*◌, ◌≤◌, ◌<◌, ltb, length, set, take, drop, replicate, length-set, length-append, length-drop, arith}
+use Rattle.std.proofs.lemmas.Bool.{lt-ltb}
+use Rattle.std.proofs.lemmas.List.{take_at, length-replicate}
+use Rattle.std.proofs.Math.Seq.{take-set-lt}
 use Rattle.mesh.specs.declared.Place.{Place}
 use Rattle.mesh.specs.Mesh.{on_mesh}
 use Rattle.mesh.specs.Maps.{bad_size, bad_length, bad_byte}
@@ -16,13 +11,12 @@ use Rattle.mesh.proofs.Index.{index-within}
 use Rattle.mesh.proofs.Maps.{good-few}
 use Rattle.mesh.proofs.NoFaults.{no-faults-length, no-faults-bytes}
 use Rattle.mesh.proofs.Some.{none-set}
-use Rattle.buffers.specs.Over.{over}
-use Rattle.buffers.proofs.Over.{over-length, over-all}
 use Rattle.theory_sheet.specs.declared.Phase.TheVariants.{Start, Faults}
 use Rattle.theory_sheet.specs.Sheet.{State, mesh_line, fault_line}
 use Rattle.sheet_state.specs.declared.Sheet.{Sheet}
+use Rattle.sheet_state.specs.declared.Change.{Change}
 use Rattle.sheet_state.specs.declared.Says.TheVariants.{Nothing}
-use Rattle.sheet_state.specs.Keeping.{state_of, FaultMap, Ready, Changes}
+use Rattle.sheet_state.specs.Keeping.{state_of, FaultMap, Ready, unchanged, Changes}
 use Rattle.sheet_state.proofs.Phases.{faults-sends}
 
 no-faults : (columns rows : ℕ) → bad_size columns ≡ false → bad_size rows ≡ false → FaultMap columns rows (replicate (columns * rows) 0)
@@ -47,20 +41,21 @@ module _ (columns rows : ℕ) {b d : Bool} (is_b : b ≡ bad_size columns) (good
   pub mesh-few : columns * rows ≤ 4096
   mesh-few = good-few columns rows (sym is_b ∙ good-columns) (sym is-d ∙ good-rows)
 
-  pub mesh-made : (t : State) (map : List ℕ) {after : List ℕ} → t.phase ≡ Start → 4096 ≤ length map → after ≡ over map 0 (replicate (columns * rows) 0) →
+  pub mesh-made : (t : State) (map : List ℕ) {after : List ℕ} → t.phase ≡ Start → 4096 ≤ length map → after ≡ replicate (columns * rows) 0 ++ drop (columns * rows) map →
       Changes (λ n. mesh_line t.phase n t columns rows) (record { sheet = record { phase = Faults; columns = columns; rows = rows }; says = Nothing }) after
   unfolding mesh_line
   mesh-made t map {after} first room e =
-      let none = replicate {A = ℕ} (columns * rows) 0 in
-      let size = length-replicate {A = ℕ} (columns * rows) 0 in
-      let cleared : take (columns * rows) after ≡ none = rw (e, over-all map none (omega (arith, size, mesh-few))) (take_at none _ _ size) in
+      let n = columns * rows in
+      let none = replicate {A = ℕ} n 0 in
+      let size = length-replicate {A = ℕ} n 0 in
+      let cleared : take n after ≡ none = rw e (take_at none _ _ size) in
       record {
         steps = λ n. rw (first, ← is_b, good-columns, ← is-d, good-rows, cleared);
         few = omega arith;
         ready =
             λ f.
             record {
-              room = rw (e, over-length map 0 none) room;
+              room = rw (e, length-append) (omega (arith, size, length-drop n map, mesh-few));
               faults = λ g. rw cleared (no-faults columns rows (sym is_b ∙ good-columns) (sym is-d ∙ good-rows));
               sends = λ g. faults-sends refl g;
             };
@@ -71,11 +66,12 @@ module _ {s : Sheet} {map : List ℕ} (r : Ready s map) (e : s.phase ≡ Faults)
   pub fault-index : (p.row.0 * s.columns + p.column.0 < s.columns * s.rows) × (s.columns * s.rows ≤ 4096)
   fault-index = (index-within s.columns p.row.0 p.column.0 column s.rows row, fault-map-few (r.faults e))
 
-  pub fault-set : Changes (λ n. fault_line s.phase n (state_of s map) p) (record { sheet = s; says = Nothing }) (set map (p.row.0 * s.columns + p.column.0) 1)
+  pub fault-set : {x : Change} → x ≡ unchanged s Nothing → Changes (λ n. fault_line s.phase n (state_of s map) p) x (set map (p.row.0 * s.columns + p.column.0) 1)
   unfolding fault_line off_mesh on_mesh
-  fault-set =
+  fault-set q =
       let i = p.row.0 * s.columns + p.column.0 in
       let set-in = take-set-lt (s.columns * s.rows) map i 1 fault-index.0 in
+      rw q
       record {
         steps = λ n. rw (e, lt-ltb p.row.0 s.rows row, lt-ltb p.column.0 s.columns column, set-in);
         few = omega arith;

@@ -1,11 +1,6 @@
 -- Before the first send: a map without misplaced faults is one that refusals 1 to 5 let pass, so its marking serves routes. Assumes nothing.
-use mathlib.Core.Path.{◌≡◌, refl, sym, ap, ◌∙◌}
-use mathlib.Core.Bool.{Bool, false}
-use mathlib.Core.List.{List, ◌++◌}
-use Prim.Native.Nat.{ℕ, ◌*◌, ◌≤◌}
-use native.Mathlib.Omega.{arith}
-use lib.ListN.{length, drop, length-append, length-drop}
-use lib.Seq.{take_at}
+use Rattle.std.proofs.Common.{◌≡◌, refl, sym, ap, ◌∙◌, Bool, false, List, ◌++◌, ℕ, ◌*◌, ◌≤◌, arith, length, drop, length-append, length-drop}
+use Rattle.std.proofs.lemmas.List.{take_at}
 use Rattle.mesh.specs.Mesh.{mesh}
 use Rattle.mesh.specs.Tests.{first}
 use Rattle.mesh.specs.Rounds.{marked}
@@ -84,6 +79,6 @@ module _ {s : Sheet} {map : List ℕ} (r : Ready s map) (e : s.phase ≡ Faults)
               record {
                 room = omega (arith, after-length, r.room);
                 faults = λ g. faults-sends g refl;
-                sends = λ g. rw stands (record { sized = rw (← is-new) new-sized; obstacles = obstacles (accepted (faults-clear placed)) });
+                sends = λ g. rw stands (record { sized = rw (← is-new) new-sized; marking = record { obstacles = obstacles (accepted (faults-clear placed)) } });
               };
         }

@@ -1,7 +1,5 @@
 -- The phases differ. Assumes nothing.
-use mathlib.Core.Path.{◌≡◌}
-use Prim.Native.Nat.{ℕ}
-use native.Mathlib.Omega.{arith}
+use Rattle.std.proofs.Common.{◌≡◌, ℕ, arith}
 use Rattle.theory_sheet.specs.declared.Phase.{Phase}
 use Rattle.theory_sheet.specs.declared.Phase.TheVariants.{Start, Faults, Sends}
 

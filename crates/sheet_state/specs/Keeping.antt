@@ -5,7 +5,10 @@ use Rattle.sheet_state.specs.declared.Sheet.{Sheet}
 use Rattle.sheet_state.specs.declared.Says.{Says}
 use Rattle.sheet_state.specs.declared.Says.TheVariants.{BadLine, Refusal, Blocks, Nothing}
 use Rattle.sheet_state.specs.declared.Change.{Change}
+use Rattle.mesh.specs.Mesh.{mesh}
+use Rattle.mesh.specs.Numbers.{number}
 use Rattle.mesh.specs.Maps.{bad_size, bad_length, bad_byte}
+use Rattle.nodes.specs.Sized.{Sized}
 use Rattle.blocks.specs.Marking.{Marking}
 use Rattle.sheet_prints.specs.Prints.{line, line_word, no_word, blocks_word}
 use Rattle.theory_sheet.specs.Sheet.{State, Step}
@@ -24,31 +27,40 @@ pub record FaultMap (columns rows : ℕ) (map : List ℕ) : Type 0 where
   pub good_length : bad_length columns rows map ≡ false
   pub good-bytes : bad_byte map ≡ false
 
+-- a map of the size of its mesh, whose bad nodes lie in blocks
+pub record MarkMap (columns rows : ℕ) (map : List ℕ) : Type 0 where
+  pub sized : Sized columns rows map
+  pub marking : Marking (mesh columns rows map)
+
 -- from the mesh line on the map is one of faults, and from the first send on one of marks
 pub record Ready (s : Sheet) (map : List ℕ) : Type 0 where
   pub room : 4096 ≤ length map
   pub faults : s.phase ≡ Faults → FaultMap s.columns s.rows (map_of s map)
-  pub sends : s.phase ≡ Sends → Marking s.columns s.rows (map_of s map)
+  pub sends : s.phase ≡ Sends → MarkMap s.columns s.rows (map_of s map)
 
 -- what is printed for line n
 abbrev pub says_line : ℕ → Says → List ℕ
 says_line n BadLine = line line_word n
-says_line n (Refusal k) = line no_word k
+says_line n (Refusal why) = line no_word (number why)
 says_line n (Blocks k) = line blocks_word k
 says_line n Nothing = []
 
 abbrev pub says_ends : Says → Bool
 says_ends BadLine = true
-says_ends (Refusal k) = true
+says_ends (Refusal why) = true
 says_ends (Blocks k) = false
 says_ends Nothing = false
 
 -- the number that is printed, but for that of the line
 abbrev pub says_number : Says → ℕ
 says_number BadLine = 0
-says_number (Refusal k) = k
+says_number (Refusal why) = number why
 says_number (Blocks k) = k
 says_number Nothing = 0
+
+-- a sheet as it was, and what its line prints
+abbrev pub unchanged : Sheet → Says → Change
+unchanged s x = record { sheet = s; says = x }
 
 -- the step of line n that a change stands for, with the map as it is then
 abbrev pub step_of : ℕ → Change → List ℕ → Step
