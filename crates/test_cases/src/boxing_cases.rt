@@ -1,48 +1,15 @@
 // Boxes of maps, four numbers each. The list is 9 where no number is written.
 use boxing::box_blocks;
-use c_boxing::boxed_code;
 use std::io;
-use test_prints::{faults, print, print_answer, print_number, print_place};
-
-fn print_fault(rt: &impl Print, i: u32, x: u8) -> io::Result<()> {
-    if x == 1 {
-        print_place(rt, i / 10, i % 10)?;
-    }
-    Ok(())
-}
+use test_prints::{faults, node, print_answer, print_place};
 
 fn print_map(rt: &impl Print, map: &[u8; 80]) -> io::Result<()> {
-    let mut i: u32 = 0;
-    while i < 80 {
-        print_fault(rt, i, map[i as usize])?;
-        i += 1;
+    for p in 0..80u32 {
+        if map[p as usize] == 1 {
+            print_place(rt, node(p))?;
+        }
     }
     Ok(())
-}
-
-fn print_entry(rt: &impl Print, x: u32) -> io::Result<()> {
-    print(rt, b" ")?;
-    print_number(rt, x as u64)
-}
-
-fn print_list(rt: &impl Print, list: &[u32; 25]) -> io::Result<()> {
-    let mut i = 0;
-    while i < 25 {
-        print_entry(rt, list[i])?;
-        i += 1;
-    }
-    Ok(())
-}
-
-fn try_part(
-    rt: &impl Print,
-    columns: u32,
-    rows: u32,
-    map: &[u8],
-    list: &mut [u32],
-) -> io::Result<()> {
-    let answer = box_blocks(columns, rows, map, list);
-    print_answer(rt, boxed_code(answer))
 }
 
 // With so many numbers in the list.
@@ -53,22 +20,23 @@ fn try_list(
     map: &[u8; 80],
     room: usize,
 ) -> io::Result<()> {
-    if 25 < room {
-        return Ok(());
-    }
     let mut list = [9u32; 25];
-    print(rt, b"boxes")?;
+    let Some(part) = list.get_mut(..room) else {
+        return Ok(());
+    };
+    print!(rt; "boxes")?;
     print_map(rt, map)?;
-    try_part(rt, columns, rows, map, &mut list[0..room])?;
-    print(rt, b",")?;
-    print_list(rt, &list)?;
-    print(rt, b"\n")
+    print_answer(rt, box_blocks(columns, rows, map, part))?;
+    print!(rt; ",")?;
+    for x in &list {
+        print!(rt; " {x}")?;
+    }
+    println!(rt; "")
 }
 
 // The map of two faults, and with two more.
 fn try_two(rt: &impl Print, p: u32, q: u32, room: usize) -> io::Result<()> {
-    let map = faults(p, q);
-    try_list(rt, 10, 8, &map, room)
+    try_list(rt, 10, 8, &faults(p, q), room)
 }
 
 fn try_four(rt: &impl Print, p: u32, q: u32, r: u32, s: u32, room: usize) -> io::Result<()> {

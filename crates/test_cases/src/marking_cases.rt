@@ -1,41 +1,34 @@
 // Mark blocks.
 use marking::mark_blocks;
-use mesh::Marked;
-use numbers::marked_code;
+use mesh::{Marked, Refusal};
 use std::io;
-use test_prints::{faults, print, print_answer, print_faults, print_number};
+use test_prints::{faults, print_answer, print_faults};
 
 // The number of blocks and that of rounds, or the refusal.
-fn print_marked(rt: &impl Print, answer: Marked) -> io::Result<()> {
-    print_answer(rt, marked_code(answer))?;
-    match answer {
-        Marked::Blocks(_, rounds) => {
-            print(rt, b", rounds ")?;
-            print_number(rt, rounds as u64)?;
-        }
-        Marked::Refused(_) => {}
+fn print_marked(rt: &impl Print, answer: Result<Marked, Refusal>) -> io::Result<()> {
+    print_answer(rt, answer.map(|marked| marked.blocks))?;
+    if let Ok(marked) = answer {
+        print!(rt; ", rounds {}", marked.rounds)?;
     }
-    print(rt, b"\n")
+    println!(rt; "")
 }
 
-fn print_mark(rt: &impl Print, x: u8) -> io::Result<()> {
+fn mark_letter(x: u8) -> char {
     match x {
-        0 => print(rt, b"."),
-        1 => print(rt, b"F"),
-        2 => print(rt, b"U"),
-        _ => print(rt, b"?"),
+        0 => '.',
+        1 => 'F',
+        2 => 'U',
+        _ => '?',
     }
 }
 
 // The marks, row 0 first.
 fn print_marks(rt: &impl Print, marks: &[u8; 80]) -> io::Result<()> {
-    let mut i = 0;
-    while i < 80 {
-        print_mark(rt, marks[i])?;
-        i += 1;
-        if i % 10 == 0 {
-            print(rt, b"\n")?;
+    for row in marks.chunks(10) {
+        for x in row {
+            print!(rt; "{}", mark_letter(*x))?;
         }
+        println!(rt; "")?;
     }
     Ok(())
 }
@@ -52,44 +45,35 @@ fn try_map(rt: &impl Print, map: &[u8], with_marks: bool) -> io::Result<()> {
 
 // A map with these faults.
 fn try_marks(rt: &impl Print, p: u32, q: u32, with_marks: bool) -> io::Result<()> {
-    let map = faults(p, q);
-    print(rt, b"blocks round")?;
+    print!(rt; "blocks round")?;
     print_faults(rt, p, q)?;
-    try_map(rt, &map, with_marks)
+    try_map(rt, &faults(p, q), with_marks)
 }
 
 // Marks a map of this size without faults.
 fn try_size(rt: &impl Print, columns: u32, rows: u32, nodes: usize) -> io::Result<()> {
     let map = [0u8; 4096];
-    if 4096 < nodes {
+    let Some(part) = map.get(..nodes) else {
         return Ok(());
-    }
+    };
     let mut out = [7u8; 4096];
-    print_number(rt, columns as u64)?;
-    print(rt, b" columns, ")?;
-    print_number(rt, rows as u64)?;
-    print(rt, b" rows")?;
-    print_marked(rt, mark_blocks(columns, rows, &map[0..nodes], &mut out))
+    print!(rt; "{columns} columns, {rows} rows")?;
+    print_marked(rt, mark_blocks(columns, rows, part, &mut out))
 }
 
 // Map L: a column of faults, and one beside its south end.
 fn draw_corner() -> [u8; 80] {
     let mut map = [0u8; 80];
-    map[12] = 1;
-    map[22] = 1;
-    map[32] = 1;
-    map[42] = 1;
-    map[52] = 1;
-    map[62] = 1;
-    map[13] = 1;
+    for p in [12, 22, 32, 42, 52, 62, 13] {
+        map[p] = 1;
+    }
     map
 }
 
 // Each round but the last makes one node unsafe.
 pub fn try_rounds(rt: &impl Print) -> io::Result<()> {
-    let map = draw_corner();
-    print(rt, b"blocks round rows 1 to 6 of column 2 and (1,3)")?;
-    try_map(rt, &map, true)
+    print!(rt; "blocks round rows 1 to 6 of column 2 and (1,3)")?;
+    try_map(rt, &draw_corner(), true)
 }
 
 pub fn try_blocks(rt: &impl Print) -> io::Result<()> {

@@ -1,51 +1,29 @@
 // Move on: the answer of each call, and the record after it.
 use headings::letter;
-use mesh::{Heading, Last, Moved, Network, Packet, Stepped};
+use mesh::{Heading, Network, Packet, Refusal};
 use moving::moved_on;
-use numbers::refusal_number;
 use std::io;
-use test_prints::{faults, node, print, print_number, print_place, print_request};
+use test_prints::{faults, node, print_place, print_request};
 
-fn print_letter(rt: &impl Print, h: Heading) -> io::Result<()> {
-    let text = [letter(h)];
-    print(rt, &text)
-}
-
-fn print_moved(rt: &impl Print, answer: Moved) -> io::Result<()> {
+fn print_moved(rt: &impl Print, answer: Result<Option<Heading>, Refusal>) -> io::Result<()> {
     match answer {
-        Moved::Hop(h) => print_letter(rt, h),
-        Moved::Arrived => print(rt, b"arrived"),
-        Moved::Refused(why) => {
-            print(rt, b"no ")?;
-            print_number(rt, refusal_number(why) as u64)
-        }
-    }
-}
-
-fn print_last(rt: &impl Print, last: Last) -> io::Result<()> {
-    match last {
-        Last::None => print(rt, b" none"),
-        Last::Made(h) => {
-            print(rt, b" ")?;
-            print_letter(rt, h)
-        }
+        Ok(Some(h)) => rt.write_all(&[letter(h)]),
+        Ok(None) => print!(rt; "arrived"),
+        Err(why) => print!(rt; "no {}", u32::from(why)),
     }
 }
 
 fn print_record(rt: &impl Print, p: Packet) -> io::Result<()> {
-    let last = p.last;
-    print(rt, b": at")?;
-    print_place(rt, p.place.row.0, p.place.column.0)?;
-    print(rt, b", last hop")?;
-    print_last(rt, last)?;
-    print(rt, b", to")?;
-    print_place(rt, p.destination.row.0, p.destination.column.0)?;
-    print(rt, b"\n")
-}
-
-fn step(network: Network, p: u32, q: u32, packet: Packet) -> Stepped {
-    let map = faults(p, q);
-    moved_on(network, 10, 8, &map, packet)
+    print!(rt; ": at")?;
+    print_place(rt, p.place)?;
+    print!(rt; ", last hop ")?;
+    match p.last {
+        Some(h) => rt.write_all(&[letter(h)])?,
+        None => print!(rt; "none")?,
+    }
+    print!(rt; ", to")?;
+    print_place(rt, p.destination)?;
+    println!(rt; "")
 }
 
 // So many calls on a fresh packet, on a map with these faults.
@@ -58,21 +36,19 @@ fn try_on(
     destination: u32,
     calls: u32,
 ) -> io::Result<()> {
-    print_request(rt, b"move on round", p, q, source, destination)?;
-    print(rt, b"\n")?;
+    print_request(rt, "move on round", p, q, source, destination)?;
+    println!(rt; "")?;
+    let map = faults(p, q);
     let mut packet = Packet {
         place: node(source),
-        last: Last::None,
+        last: None,
         destination: node(destination),
     };
-    let mut i: u32 = 0;
-    while i < calls {
-        let stepped = step(network, p, q, packet);
-        let answer = stepped.moved;
+    for _ in 0..calls {
+        let stepped = moved_on(network, 10, 8, &map, packet);
         packet = stepped.packet;
-        print_moved(rt, answer)?;
+        print_moved(rt, stepped.moved)?;
         print_record(rt, packet)?;
-        i += 1;
     }
     Ok(())
 }
@@ -90,7 +66,7 @@ fn try_packet(
 
 // On the second network: to arrival, shut in, and at the edge.
 pub fn try_second_network(rt: &impl Print) -> io::Result<()> {
-    print(rt, b"second network\n")?;
+    println!(rt; "second network")?;
     try_on(rt, Network::Second, 34, 45, 15, 65, 10)?;
     try_on(rt, Network::Second, 44, 44, 45, 65, 3)?;
     try_on(rt, Network::Second, 43, 43, 44, 40, 3)?;

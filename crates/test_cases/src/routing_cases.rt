@@ -1,39 +1,46 @@
 // Route. The output has dots where no letter is written.
 use mesh::Network;
-use numbers::{place_of, routed_code};
+use numbers::place_of;
 use routing::route;
 use std::io;
-use test_prints::{faults, node, print, print_answer, print_number, print_request};
+use test_prints::{faults, node, print_answer, print_request};
 
-fn send(network: Network, p: u32, q: u32, source: u32, destination: u32, out: &mut [u8]) -> u32 {
-    let map = faults(p, q);
-    routed_code(route(network, 10, 8, &map, node(source), node(destination), out))
+fn print_out(rt: &impl Print, out: &[u8]) -> io::Result<()> {
+    print!(rt; " ")?;
+    rt.write_all(out)?;
+    println!(rt; "")
 }
 
 // A request on a map with these faults.
 fn try_on(
     rt: &impl Print,
     network: Network,
-    what: &[u8],
+    what: &str,
     p: u32,
     q: u32,
     source: u32,
     destination: u32,
 ) -> io::Result<()> {
     let mut out = [b'.'; 20];
-    let answer = send(network, p, q, source, destination, &mut out);
+    let answer = route(
+        network,
+        10,
+        8,
+        &faults(p, q),
+        node(source),
+        node(destination),
+        &mut out,
+    );
     print_request(rt, what, p, q, source, destination)?;
     print_answer(rt, answer)?;
-    print(rt, b" ")?;
-    print(rt, &out)?;
-    print(rt, b"\n")
+    print_out(rt, &out)
 }
 
 fn try_route(rt: &impl Print, p: u32, q: u32, source: u32, destination: u32) -> io::Result<()> {
     try_on(
         rt,
         Network::First,
-        b"route round",
+        "route round",
         p,
         q,
         source,
@@ -45,7 +52,7 @@ fn try_second(rt: &impl Print, p: u32, q: u32, source: u32, destination: u32) ->
     try_on(
         rt,
         Network::Second,
-        b"second network, route round",
+        "second network, route round",
         p,
         q,
         source,
@@ -59,15 +66,10 @@ fn try_column(rt: &impl Print, row: u32, to_row: u32) -> io::Result<()> {
     let mut out = [b'.'; 8];
     let s = place_of(row, 0);
     let d = place_of(to_row, 0);
-    let answer = routed_code(route(Network::Second, 1, 8, &map, s, d, &mut out));
-    print(rt, b"second network, one column, from row ")?;
-    print_number(rt, row as u64)?;
-    print(rt, b" to row ")?;
-    print_number(rt, to_row as u64)?;
+    let answer = route(Network::Second, 1, 8, &map, s, d, &mut out);
+    print!(rt; "second network, one column, from row {row} to row {to_row}")?;
     print_answer(rt, answer)?;
-    print(rt, b" ")?;
-    print(rt, &out)?;
-    print(rt, b"\n")
+    print_out(rt, &out)
 }
 
 // Round one block: its rows and the rows next to it.

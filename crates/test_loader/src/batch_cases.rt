@@ -1,31 +1,8 @@
 // Whole tables of sends. The output has dots where no letter is written, and an entry without an answer is 0.
 use batch::route_batch;
 use mesh::Network;
-use numbers::refusal_number;
 use std::io;
-use test_prints::{faults, print, print_answer, print_number};
-use theory_batch::Batched;
-
-fn print_batched(rt: &impl Print, answer: Batched) -> io::Result<()> {
-    match answer {
-        Batched::Letters(n) => print_number(rt, n as u64),
-        Batched::Refused(why) => {
-            print(rt, b"no ")?;
-            print_number(rt, refusal_number(why) as u64)
-        }
-        Batched::NotSends => print(rt, b"no 18"),
-    }
-}
-
-fn print_entries(rt: &impl Print, answers: &[u32]) -> io::Result<()> {
-    let n = answers.len();
-    let mut i = 0;
-    while i < n {
-        print_answer(rt, answers[i])?;
-        i += 1;
-    }
-    Ok(())
-}
+use test_prints::faults;
 
 // On a map with this fault and (4,5).
 fn try_sends(
@@ -36,14 +13,22 @@ fn try_sends(
     answers: &mut [u32],
     out: &mut [u8],
 ) -> io::Result<()> {
-    let map = faults(p, 45);
-    let answer = route_batch(network, 10, 8, &map, sends, answers, out);
-    print(rt, b"table of sends: ")?;
-    print_batched(rt, answer)?;
-    print_entries(rt, answers)?;
-    print(rt, b" ")?;
-    print(rt, out)?;
-    print(rt, b"\n")
+    let answer = route_batch(network, 10, 8, &faults(p, 45), sends, answers, out);
+    print!(rt; "table of sends: ")?;
+    match answer {
+        Ok(n) => print!(rt; "{n}")?,
+        Err(why) => print!(rt; "no {}", u32::from(why))?,
+    }
+    for code in answers {
+        if *code < 65536 {
+            print!(rt; ": {code}")?;
+        } else {
+            print!(rt; ": no {}", *code - 65536)?;
+        }
+    }
+    print!(rt; " ")?;
+    rt.write_all(out)?;
+    println!(rt; "")
 }
 
 // Sends of 11 hops, of 13, to a block's side, of 2.
@@ -90,7 +75,7 @@ fn try_12(rt: &impl Print) -> io::Result<()> {
 fn try_second(rt: &impl Print) -> io::Result<()> {
     let mut answers = [0u32; 4];
     let mut out = [b'.'; 22];
-    print(rt, b"second network, ")?;
+    print!(rt; "second network, ")?;
     try_table(rt, Network::Second, 34, &mut answers, &mut out)
 }
 

@@ -1,38 +1,7 @@
 // Maps drawn by number. The output is 9 where no byte is written; of its 81 bytes one lies beyond the map of 10 x 8.
-use c_drawing::drawn_code;
 use drawing::draw;
 use std::io;
-use test_prints::{print, print_answer, print_bytes, print_number};
-
-fn print_call(rt: &impl Print, columns: u32, rows: u32, seed: u32, draws: u32) -> io::Result<()> {
-    print(rt, b"draw ")?;
-    print_number(rt, columns as u64)?;
-    print(rt, b" x ")?;
-    print_number(rt, rows as u64)?;
-    print(rt, b", number ")?;
-    print_number(rt, seed as u64)?;
-    print(rt, b", draws ")?;
-    print_number(rt, draws as u64)
-}
-
-fn try_part(
-    rt: &impl Print,
-    columns: u32,
-    rows: u32,
-    seed: u32,
-    draws: u32,
-    out: &mut [u8],
-) -> io::Result<()> {
-    print_call(rt, columns, rows, seed, draws)?;
-    let answer = draw(columns, rows, seed, draws, out);
-    print_answer(rt, drawn_code(answer))
-}
-
-fn print_out(rt: &impl Print, out: &[u8; 81]) -> io::Result<()> {
-    print(rt, b",")?;
-    print_bytes(rt, out)?;
-    print(rt, b"\n")
-}
+use test_prints::{print_answer, print_bytes};
 
 // With so many bytes in the output.
 fn try_draw(
@@ -43,12 +12,15 @@ fn try_draw(
     draws: u32,
     room: usize,
 ) -> io::Result<()> {
-    if 81 < room {
-        return Ok(());
-    }
     let mut out = [9u8; 81];
-    try_part(rt, columns, rows, seed, draws, &mut out[0..room])?;
-    print_out(rt, &out)
+    let Some(part) = out.get_mut(..room) else {
+        return Ok(());
+    };
+    print!(rt; "draw {columns} x {rows}, number {seed}, draws {draws}")?;
+    print_answer(rt, draw(columns, rows, seed, draws, part))?;
+    print!(rt; ",")?;
+    print_bytes(rt, &out)?;
+    println!(rt; "")
 }
 
 // The first three draws of a seed, and of the last one; places that come again, the only one too; no draws, with places and without.

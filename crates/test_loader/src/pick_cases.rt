@@ -2,40 +2,7 @@
 // buffers.
 use picking::pick;
 use std::io;
-use test_prints::{faults, node, print, print_number, print_request};
-
-// The part that is handed back, and the lent number.
-fn try_buffers(
-    rt: &impl Print,
-    p: u32,
-    q: u32,
-    source: u32,
-    destination: u32,
-    first: &mut [u8],
-    second: &mut [u8],
-) -> io::Result<()> {
-    let map = faults(p, q);
-    let mut refusal = 99u32;
-    let part = pick(
-        10,
-        8,
-        &map,
-        node(source),
-        node(destination),
-        first,
-        second,
-        &mut refusal,
-    );
-    print(rt, b": ")?;
-    print(rt, part)?;
-    print(rt, b" ")?;
-    print_number(rt, refusal as u64)
-}
-
-fn print_buffer(rt: &impl Print, buffer: &[u8; 20]) -> io::Result<()> {
-    print(rt, b" ")?;
-    print(rt, buffer)
-}
+use test_prints::{faults, node, print_request};
 
 // On a map with these faults, with so many bytes in each buffer.
 fn try_pick(
@@ -47,27 +14,30 @@ fn try_pick(
     m: usize,
     n: usize,
 ) -> io::Result<()> {
-    if 20 < m {
-        return Ok(());
-    }
-    if 20 < n {
-        return Ok(());
-    }
     let mut first = [b'.'; 20];
     let mut second = [b'.'; 20];
-    print_request(rt, b"pick round", p, q, source, destination)?;
-    try_buffers(
-        rt,
-        p,
-        q,
-        source,
-        destination,
-        &mut first[0..m],
-        &mut second[0..n],
-    )?;
-    print_buffer(rt, &first)?;
-    print_buffer(rt, &second)?;
-    print(rt, b"\n")
+    let (Some(one), Some(two)) = (first.get_mut(..m), second.get_mut(..n)) else {
+        return Ok(());
+    };
+    print_request(rt, "pick round", p, q, source, destination)?;
+    let mut refusal = 99;
+    let handed = pick(
+        10,
+        8,
+        &faults(p, q),
+        node(source),
+        node(destination),
+        one,
+        two,
+        &mut refusal,
+    );
+    print!(rt; ": ")?;
+    rt.write_all(handed)?;
+    print!(rt; " {refusal} ")?;
+    rt.write_all(&first)?;
+    print!(rt; " ")?;
+    rt.write_all(&second)?;
+    println!(rt; "")
 }
 
 // The second is shorter, the first is, a tie; only one is served, by 9 or by 10; both refuse, for one reason or for two.

@@ -17,30 +17,14 @@ pub fn faults(p: u32, q: u32) -> [u8; 80] {
     map
 }
 
-pub fn print(rt: &impl Print, text: &[u8]) -> io::Result<()> {
-    rt.write_all(text)
-}
-
-pub fn print_number(rt: &impl Print, n: u64) -> io::Result<()> {
-    rt.print(n)
-}
-
-pub fn print_place(rt: &impl Print, row: u32, column: u32) -> io::Result<()> {
-    print(rt, b" (")?;
-    print_number(rt, row as u64)?;
-    print(rt, b",")?;
-    print_number(rt, column as u64)?;
-    print(rt, b")")
-}
-
-fn print_node(rt: &impl Print, p: u32) -> io::Result<()> {
-    print_place(rt, p / 10, p % 10)
+pub fn print_place(rt: &impl Print, p: Place) -> io::Result<()> {
+    print!(rt; " ({},{})", p.row.0, p.column.0)
 }
 
 pub fn print_faults(rt: &impl Print, p: u32, q: u32) -> io::Result<()> {
-    print_node(rt, p)?;
+    print_place(rt, node(p))?;
     if p != q {
-        print_node(rt, q)?;
+        print_place(rt, node(q))?;
     }
     Ok(())
 }
@@ -48,42 +32,32 @@ pub fn print_faults(rt: &impl Print, p: u32, q: u32) -> io::Result<()> {
 // What is asked, on a map with these faults.
 pub fn print_request(
     rt: &impl Print,
-    what: &[u8],
+    what: &str,
     p: u32,
     q: u32,
     source: u32,
     destination: u32,
 ) -> io::Result<()> {
-    print(rt, what)?;
+    print!(rt; "{what}")?;
     print_faults(rt, p, q)?;
-    print(rt, b", from")?;
-    print_node(rt, source)?;
-    print(rt, b" to")?;
-    print_node(rt, destination)
+    print!(rt; ", from")?;
+    print_place(rt, node(source))?;
+    print!(rt; " to")?;
+    print_place(rt, node(destination))
 }
 
-// A number, or 65,536 and a refusal.
-pub fn print_answer(rt: &impl Print, code: u32) -> io::Result<()> {
-    if code < 65536 {
-        print(rt, b": ")?;
-        return print_number(rt, code as u64);
+// What is returned, or the number of a refusal.
+pub fn print_answer<E: Into<u32>>(rt: &impl Print, answer: Result<u32, E>) -> io::Result<()> {
+    match answer {
+        Ok(n) => print!(rt; ": {n}"),
+        Err(why) => print!(rt; ": no {}", why.into()),
     }
-    print(rt, b": no ")?;
-    print_number(rt, (code - 65536) as u64)
-}
-
-fn print_byte(rt: &impl Print, byte: u8) -> io::Result<()> {
-    print(rt, b" ")?;
-    print_number(rt, byte as u64)
 }
 
 // Bytes as numbers.
 pub fn print_bytes(rt: &impl Print, bytes: &[u8]) -> io::Result<()> {
-    let n = bytes.len();
-    let mut i = 0;
-    while i < n {
-        print_byte(rt, bytes[i])?;
-        i += 1;
+    for byte in bytes {
+        print!(rt; " {byte}")?;
     }
     Ok(())
 }
