@@ -13,7 +13,7 @@ fn put_number(out: &mut [u8], at: usize, n: u32) -> usize
     requires { (n < 100000) × (at + 5 ≤ length out.old) }
     ensures { Puts out.old at (decimal n) result out.new }
 {
-    let last = 48 + (n % 10) as u8;
+    let last = b'0' + (n % 10) as u8;
     if n < 10 {
         return put_byte(out, at, last);
     }
@@ -60,7 +60,7 @@ fn put_letters(out: &mut [u8], at: usize, letters: &[u8]) -> usize
     requires { at + length letters.now + 1 ≤ length out.old }
     ensures { Puts out.old at (spaced_letters letters.now) result out.new }
 {
-    if letters.len() == 0 {
+    if letters.is_empty() {
         return at;
     }
     let first = put_byte(out, at, b' ');

@@ -15,36 +15,35 @@ use Rattle.theory_legs.specs.Converting.{legs_in, letters_of, LegsToLetters}
 use Rattle.theory_legs.proofs.FileRefusals.{file-numbered, fault-refuses, legs-accepted}
 use Rattle.theory_legs.proofs.Promises.{refuses-as, refuses-room, wrote_as}
 use Rattle.to_letters.specs.declared.Counted.{Counted}
-use Rattle.to_letters.specs.declared.Counted.TheVariants as counted
 use Rattle.to_letters.specs.Counted.{Whole, CountsFile, Readable, letters_from}
 
-module _ (ys out : List ℕ) {x : Counted} (t : CountsFile ys x) where
-  pub answers-fault : {r : LegRefusal} → x ≡ counted.Refused r → LegsToLetters ys out (Err r) out
+module _ (ys out : List ℕ) where
+  pub answers-fault : {why : LegRefusal} → CountsFile ys (Err why) → LegsToLetters ys out (Err why) out
   unfolding CountsFile
-  answers-fault {r} e = refuses-as r (fault-refuses ys out (rw e at t))
+  answers-fault {why} t = refuses-as why (fault-refuses ys out t)
 
-  module _ {legs first total : ℕ} (e : x ≡ counted.Legs legs first total) where
-    whole : Whole ys legs first total
+  module _ (x : Counted) (t : CountsFile ys (Ok x)) where
+    whole : Whole ys x.legs x.first x.total
     unfolding CountsFile
-    whole = rw e at t
+    whole = t
 
     letters-there : letters_of ys ≡ letters (hops whole.legs-there)
     unfolding letters_of legs_in
     letters-there = rw whole.all
 
-    sized : length (letters_of ys) ≡ total
+    sized : length (letters_of ys) ≡ x.total
     sized = rw letters-there (letters-length (hops whole.legs-there) ∙ whole.total-is)
 
-    pub answers-room : length out < total → LegsToLetters ys out (Err Room) out
+    pub answers-room : length out < x.total → LegsToLetters ys out (Err Room) out
     answers-room = refuses-room (file-numbered ys) (legs-accepted ys whole.all) sized
 
-    module _ (room : total ≤ length out) where
-      pub letters-writable : Readable ys first legs out
+    module _ (room : x.total ≤ length out) where
+      pub letters-writable : Readable ys x.first x.legs out
       letters-writable =
           let w = whole in
           record { legs-there = w.legs-there; rest = _; after = w.after; room = rw w.total-is room }
 
-      pub answers-wrote : {after : List ℕ} → after ≡ over out 0 (letters_from ys first legs) → LegsToLetters ys out (Ok total) after
+      pub answers-wrote : {after : List ℕ} → after ≡ over out 0 (letters_from ys x.first x.legs) → LegsToLetters ys out (Ok x.total) after
       unfolding letters_from legs_in
       answers-wrote f =
           let stands = rw (whole.after, ← letters-there) at f in

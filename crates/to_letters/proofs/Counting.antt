@@ -1,58 +1,43 @@
 -- The letters of a file counted leg by leg. Assumes nothing.
-use Rattle.std.specs.Prelude.{Some, None}
-use mathlib.Core.Path.{◌≡◌, refl, ap, sym, ◌∙◌}
-use mathlib.Core.Bool.{true, false}
-use mathlib.Core.Logic.{◌≢◌, inl, inr}
-use mathlib.Core.List.{List, []}
-use Prim.Native.Nat.{ℕ, suc, ◌+◌, ◌-◌, ◌*◌, ◌/◌, ◌%◌, ◌≤◌, ◌<◌}
-use native.Mathlib.Nat.{add_assoc, mod-lt, add-zero}
-use native.Mathlib.Decide.{dec_lt}
-use native.Mathlib.Omega.{arith}
-use borrow.Author.Tests.{lt-ltb, le-ltb}
-use lib.ListN.{length, drop, length-append, length-replicate, replicate, drop_of_length-le}
-use lib.Seq.{drop-cons}
+use Rattle.std.proofs.Common.{◌≡◌, ◌≢◌, ℕ, suc, ◌+◌, ◌-◌, ◌*◌, ◌/◌, ◌%◌, ◌≤◌, ◌<◌, true, false, List, [], length, drop, replicate, Option, Some, None, Ok, Err, refl, ap, sym, ◌∙◌, arith, add-zero, length-append, drop-cons}
+use mathlib.Core.Logic.{inl, inr}
+use native.Mathlib.Nat.{add_assoc, mod-lt}
+use lib.ListN.{length-replicate, drop_of_length-le}
 use Rattle.mesh.specs.Headings.{same, last_is, code, direction}
 use Rattle.mesh.proofs.Bools.{value}
 use Rattle.mesh.proofs.Headings.{same-heading, same_self, code-of-direction}
-use Rattle.groups.specs.declared.Number.{Number}
-use Rattle.groups.specs.declared.Number.TheVariants.{Value, CutShort, Bad}
 use Rattle.groups.specs.Reading.{number_told, number_from}
 use Rattle.groups.proofs.Reading.{told-small}
 use Rattle.theory_legs.specs.declared.LegRefusal.{LegRefusal}
-use Rattle.theory_legs.specs.declared.LegRefusal.TheVariants as why
+use Rattle.theory_legs.specs.declared.LegRefusal.TheVariants.{SameDirection, LeftOver}
 use Rattle.theory_legs.specs.Groups.{Found, fault, found, and_then, read_number}
 use Rattle.theory_legs.specs.Legs.{Leg, hops}
 use Rattle.theory_legs.specs.Files.{leg_of, leg_before, read_legs, all_read, read_file}
 use Rattle.theory_legs.proofs.Files.{leg-unread, leg-repeats, leg-differs}
-use Rattle.to_letters.specs.declared.Span.{Span}
-use Rattle.to_letters.specs.declared.Span.TheVariants as span
-use Rattle.to_letters.specs.declared.Counted.TheVariants as counted
-use Rattle.to_letters.specs.Counted.{last_coded, legs_after, sizes, span_told, CountsLegs, CountsFile}
+use Rattle.to_letters.specs.Counted.{last_coded, legs_after, sizes, CountsLegs, CountsFile}
 
 -- The forerunner's direction by its code
 
-repeats-code : (k before : ℕ) → k < 4 → k ≡ before → last_is (last_coded before) (direction k) ≡ true
+repeats-code : (k : ℕ) (before : Option ℕ) → before ≡ Some k → last_is (last_coded before) (direction k) ≡ true
 unfolding last_is last_coded
-repeats-code k before h e = rw (← e, lt-ltb k 4 h, same_self (direction k))
+repeats-code k before e = rw (e, same_self (direction k))
 
-differs-code : (k before : ℕ) → k < 4 → k ≢ before → last_is (last_coded before) (direction k) ≡ false
+-- the forerunner's code is that of a direction
+pub data FewCode : Option ℕ → Type 0 where
+  no_code : FewCode None
+  few_code : {k : ℕ} → k < 4 → FewCode (Some k)
+
+differs-code : (k : ℕ) (before : Option ℕ) → k < 4 → FewCode before → before ≢ Some k → last_is (last_coded before) (direction k) ≡ false
 unfolding last_is last_coded
-differs-code k before h d =
-    elim (dec_lt before 4) [
-      | yes l ↦
-          rw (lt-ltb before 4 l)
-          (elim (value (same (direction before) (direction k))) [
-            | inl s ↦
-                let one_way = ap code (same-heading (direction before) (direction k) s) in
-                absurd (d (sym (code-of-direction k h) ∙ sym one_way ∙ code-of-direction before l))
-            | inr s ↦ s
-          ])
-      | no l ↦ rw (le-ltb before 4 (omega arith))
+differs-code k None h no_code d = refl
+differs-code k (Some j) h (few_code l) d =
+    elim (value (same (direction j) (direction k))) [
+      | inl s ↦
+          let one_way = ap code (same-heading (direction j) (direction k) s) in
+          let same_code : j ≡ k = sym (code-of-direction j l) ∙ one_way ∙ code-of-direction k h in
+          absurd (d (ap Some same_code))
+      | inr s ↦ s
     ]
-
-last_made : (k : ℕ) → k < 4 → last_coded k ≡ Some (direction k)
-unfolding last_coded
-last_made k h = rw (lt-ltb k 4 h)
 
 -- Letters added up
 
@@ -78,20 +63,27 @@ added_none (fault k) = refl
 added_none (found n rest) = let e : 0 + n ≡ n = omega arith in rw e
 
 -- some legs are counted, left of them are not
-pub record Counting (ys : List ℕ) (first legs at total before left : ℕ) : Type 0 where
+pub record Counting (ys : List ℕ) (first legs at total : ℕ) (before : Option ℕ) (left : ℕ) : Type 0 where
   pub reads : added total (sizes (legs_after ys at left (last_coded before))) ≡ sizes (legs_after ys first legs None)
   pub few : total ≤ 16384 * (legs - left)
+  pub coded : FewCode before
   pub within : left ≤ legs
   pub small : legs ≤ 65535
 
-pub counting-none : (ys : List ℕ) (first legs : ℕ) → legs ≤ 65535 → Counting ys first legs first 0 4 legs
+pub counting-none : (ys : List ℕ) (first legs : ℕ) → legs ≤ 65535 → Counting ys first legs first 0 None legs
 unfolding last_coded
 counting-none ys first legs h =
-    record { reads = added_none (sizes (legs_after ys first legs None)); few = omega arith; within = omega arith; small = h }
+    record {
+      reads = added_none (sizes (legs_after ys first legs None));
+      few = omega arith;
+      coded = no_code;
+      within = omega arith;
+      small = h;
+    }
 
-module _ {ys : List ℕ} {first legs at total before left : ℕ} (c : Counting ys first legs at total before left) where
-  pub counting-all : left ≡ 0 → CountsLegs ys first legs (span.Letters total at)
-  unfolding span_told legs_after read_legs sizes hops added
+module _ {ys : List ℕ} {first legs at total : ℕ} {before : Option ℕ} {left : ℕ} (c : Counting ys first legs at total before left) where
+  pub counting-all : left ≡ 0 → CountsLegs ys first legs (Ok (total, at))
+  unfolding number_told legs_after read_legs sizes hops added
   counting-all e = let r = rw e at c.reads in record { told = rw add-zero at r }
 
   module _ (more : 0 < left) where
@@ -101,44 +93,40 @@ module _ {ys : List ℕ} {first legs at total before left : ℕ} (c : Counting y
         let one : left ≡ suc (left - 1) = omega arith in
         rw e at (rw one at c.reads)
 
-    module _ {x : Number} (t : number_told ys x ≡ number_from ys at) where
-      pub counting-cut : x ≡ CutShort → CountsLegs ys first legs (span.Refused why.CutShort)
-      unfolding span_told number_told number_from
-      counting-cut e = record { told = next-fault (leg-unread (left - 1) (last_coded before) (drop at ys) (sym (rw e at t))) }
+    pub counting-fault : {why : LegRefusal} → number_told ys (Err why) ≡ number_from ys at → CountsLegs ys first legs (Err why)
+    unfolding number_told number_from
+    counting-fault t = record { told = next-fault (leg-unread (left - 1) (last_coded before) (drop at ys) (sym t)) }
 
-      pub counting-bad : x ≡ Bad → CountsLegs ys first legs (span.Refused why.BadNumber)
-      unfolding span_told number_told number_from
-      counting-bad e = record { told = next-fault (leg-unread (left - 1) (last_coded before) (drop at ys) (sym (rw e at t))) }
+    module _ (n next : ℕ) (t : number_told ys (Ok (n, next)) ≡ number_from ys at) where
+      number_read : read_number (drop at ys) ≡ found n (drop next ys)
+      unfolding number_told number_from
+      number_read = sym t
 
-      module _ {n next : ℕ} (e : x ≡ Value n next) where
-        number_read : read_number (drop at ys) ≡ found n (drop next ys)
-        unfolding number_told number_from
-        number_read = sym (rw e at t)
+      pub counting-repeats : before ≡ Some (n % 4) → CountsLegs ys first legs (Err SameDirection)
+      unfolding number_told leg_of
+      counting-repeats f =
+          let repeats = repeats-code (n % 4) before f in
+          record { told = next-fault (leg-repeats (left - 1) (last_coded before) (drop at ys) number_read repeats) }
 
-        pub counting-repeats : n % 4 ≡ before → CountsLegs ys first legs (span.Refused why.SameDirection)
-        unfolding span_told leg_of
-        counting-repeats f =
-            let repeats = repeats-code (n % 4) before (mod-lt n (omega arith)) f in
-            record { told = next-fault (leg-repeats (left - 1) (last_coded before) (drop at ys) number_read repeats) }
+      pub number-few : n ≤ 65535
+      number-few = told-small ys at (n, next) t
 
-        pub number-few : n ≤ 65535
-        number-few = told-small ys at e t
-
-        pub counting_more : n % 4 ≢ before → Counting ys first legs next (total + (n / 4 + 1)) (n % 4) (left - 1)
-        unfolding legs_after leg_of
-        counting_more f =
-            let one : left ≡ suc (left - 1) = omega arith in
-            let way : n % 4 < 4 = mod-lt n (omega arith) in
-            let small = number-few in
-            let leg-read = leg-differs (left - 1) (last_coded before) (drop at ys) number_read (differs-code (n % 4) before way f) in
-            let others = read_legs (left - 1) (Some (direction (n % 4))) (drop next ys) in
-            let r = rw (leg-read, sizes-before (leg_of n) others, added-added total (n / 4 + 1) (sizes others)) at (rw one at c.reads) in
-            record {
-              reads = rw (last_made (n % 4) way) r;
-              few = omega (arith, c.few, c.within);
-              within = omega (arith, c.within);
-              small = c.small;
-            }
+      pub counting_more : {left' : ℕ} → left' ≡ left - 1 → before ≢ Some (n % 4) → Counting ys first legs next (total + (n / 4 + 1)) (Some (n % 4)) left'
+      unfolding last_coded legs_after leg_of
+      counting_more g f =
+          let one : left ≡ suc (left - 1) = omega arith in
+          let way : n % 4 < 4 = mod-lt n (omega arith) in
+          let small = number-few in
+          let leg-read = leg-differs (left - 1) (last_coded before) (drop at ys) number_read (differs-code (n % 4) before way c.coded f) in
+          let others = read_legs (left - 1) (Some (direction (n % 4))) (drop next ys) in
+          let r = rw (leg-read, sizes-before (leg_of n) others, added-added total (n / 4 + 1) (sizes others)) at (rw one at c.reads) in
+          record {
+            reads = rw g r;
+            few = omega (arith, c.few, c.within);
+            coded = few_code way;
+            within = omega (arith, c.within);
+            small = c.small;
+          }
 
 -- The whole file
 
@@ -160,40 +148,35 @@ sizes-found (found ls after) {n} {rest} e =
     let same_rest : after ≡ rest = cc in
     record { found-legs = ls; is_found = rw same_rest; size = cc }
 
-module _ (ys : List ℕ) {x : Number} (t : number_told ys x ≡ number_from ys 0) where
-  pub file-cut : x ≡ CutShort → CountsFile ys (counted.Refused why.CutShort)
+module _ (ys : List ℕ) where
+  pub file-fault : (why : LegRefusal) → number_told ys (Err why) ≡ number_from ys 0 → CountsFile ys (Err why)
   unfolding CountsFile number_told number_from read_file and_then
-  file-cut e = rw (sym (rw e at t))
+  file-fault why t = rw (sym t)
 
-  pub file-bad : x ≡ Bad → CountsFile ys (counted.Refused why.BadNumber)
-  unfolding CountsFile number_told number_from read_file and_then
-  file-bad e = rw (sym (rw e at t))
-
-  module _ {legs first : ℕ} (e : x ≡ Value legs first) where
+  module _ (legs first : ℕ) (t : number_told ys (Ok (legs, first)) ≡ number_from ys 0) where
     pub legs-few : legs ≤ 65535
-    legs-few = told-small ys 0 e t
+    legs-few = told-small ys 0 (legs, first) t
 
     file-legs : read_file ys ≡ and_then (legs_after ys first legs None) all_read
     unfolding number_told number_from read_file and_then legs_after
-    file-legs = rw (sym (rw e at t))
+    file-legs = rw (sym t)
 
-    module _ {s : Span} (u : CountsLegs ys first legs s) where
-      pub file-refused : {r : LegRefusal} → s ≡ span.Refused r → CountsFile ys (counted.Refused r)
-      unfolding CountsFile span_told and_then
-      file-refused {r} f = file-legs ∙ rw (sizes-fault (legs_after ys first legs None) (rw f at u.told))
+    pub file-refused : {why : LegRefusal} → CountsLegs ys first legs (Err why) → CountsFile ys (Err why)
+    unfolding CountsFile number_told and_then
+    file-refused u = file-legs ∙ rw (sizes-fault (legs_after ys first legs None) u.told)
 
-      module _ {total end : ℕ} (f : s ≡ span.Letters total end) where
-        legs-found : Sized (legs_after ys first legs None) total (drop end ys)
-        unfolding span_told
-        legs-found = sizes-found (legs_after ys first legs None) (rw f at u.told)
+    module _ {total end : ℕ} (u : CountsLegs ys first legs (Ok (total, end))) where
+      legs-found : Sized (legs_after ys first legs None) total (drop end ys)
+      unfolding number_told
+      legs-found = sizes-found (legs_after ys first legs None) u.told
 
-        pub file-left : end < length ys → CountsFile ys (counted.Refused why.LeftOver)
-        unfolding CountsFile all_read and_then
-        file-left h = file-legs ∙ rw (legs-found.is_found, drop-cons ys end 0 h)
+      pub file-left : end < length ys → CountsFile ys (Err LeftOver)
+      unfolding CountsFile all_read and_then
+      file-left h = file-legs ∙ rw (legs-found.is_found, drop-cons ys end 0 h)
 
-        pub file-whole : length ys ≤ end → CountsFile ys (counted.Legs legs first total)
-        unfolding CountsFile all_read and_then
-        file-whole h =
-            let nothing = drop_of_length-le ys {i = end} h in
-            let all : legs_after ys first legs None ≡ found legs-found.found-legs [] = legs-found.is_found ∙ rw nothing in
-            record { legs-there = legs-found.found-legs; after = all; all = file-legs ∙ rw all; total-is = legs-found.size }
+      pub file-whole : length ys ≤ end → CountsFile ys (Ok (record { legs = legs; first = first; total = total }))
+      unfolding CountsFile all_read and_then
+      file-whole h =
+          let nothing = drop_of_length-le ys {i = end} h in
+          let all : legs_after ys first legs None ≡ found legs-found.found-legs [] = legs-found.is_found ∙ rw nothing in
+          record { legs-there = legs-found.found-legs; after = all; all = file-legs ∙ rw all; total-is = legs-found.size }

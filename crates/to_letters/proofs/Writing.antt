@@ -1,5 +1,5 @@
 -- The letters of a file written leg by leg. Assumes nothing.
-use Rattle.std.specs.Prelude.{Option, Some, None}
+use Rattle.std.specs.Prelude.{Option, Some, None, Ok, Err}
 use mathlib.Core.Path.{◌≡◌, refl, ap, sym, ◌∙◌}
 use mathlib.Core.Logic.{inl, inr}
 use mathlib.Core.List.{List, [], ◌∷◌, ◌++◌}
@@ -11,9 +11,8 @@ use Rattle.mesh.specs.Headings.{letter, letters, last_is, direction}
 use Rattle.mesh.proofs.Bools.{value}
 use Rattle.buffers.specs.Over.{over, Puts}
 use Rattle.buffers.proofs.Over.{over-append, over-length}
-use Rattle.groups.specs.declared.Number.{Number}
-use Rattle.groups.specs.declared.Number.TheVariants.{Value, CutShort, Bad}
 use Rattle.groups.specs.Reading.{number_told, number_from}
+use Rattle.theory_legs.specs.declared.LegRefusal.{LegRefusal}
 use Rattle.theory_legs.specs.Groups.{found, read_number}
 use Rattle.theory_legs.specs.Legs.{Leg, hops}
 use Rattle.theory_legs.specs.Files.{leg_of, leg_before, read_legs}
@@ -81,65 +80,60 @@ module _ {ys : List ℕ} {first legs : ℕ} {out : List ℕ} {at to left : ℕ} 
         let one : left ≡ suc (left - 1) = omega arith in
         rw one at w.after
 
-    module _ {x : Number} (t : number_told ys x ≡ number_from ys at) where
-      -- no fault is met
-      pub writing-cut : {A : Type 0} → x ≡ CutShort → A
-      unfolding number_told number_from
-      writing-cut e = fault-found (leg-unread (left - 1) w.before (drop at ys) (sym (rw e at t))) read_here
+    -- no fault is met
+    pub writing-fault : {A : Type 0} (why : LegRefusal) → number_told ys (Err why) ≡ number_from ys at → A
+    unfolding number_told number_from
+    writing-fault why t = fault-found (leg-unread (left - 1) w.before (drop at ys) (sym t)) read_here
 
-      pub writing-bad : {A : Type 0} → x ≡ Bad → A
-      unfolding number_told number_from
-      writing-bad e = fault-found (leg-unread (left - 1) w.before (drop at ys) (sym (rw e at t))) read_here
+    module _ (n next : ℕ) (t : number_told ys (Ok (n, next)) ≡ number_from ys at) where
+      next-leg : Next ys left n next w.others w.rest
+      unfolding number_told number_from legs_after leg_before
+      next-leg =
+          let number_read : read_number (drop at ys) ≡ found n (drop next ys) = sym t in
+          elim (value (last_is w.before (leg_of n).heading)) [
+            | inl r ↦ fault-found (leg-repeats (left - 1) w.before (drop at ys) number_read r) read_here
+            | inr r ↦
+                let d = leg-differs (left - 1) w.before (drop at ys) number_read r in
+                elim (outcome (read_legs (left - 1) (Some (leg_of n).heading) (drop next ys))) [
+                  | faulty k f ↦ fault-found {k = k} (d ∙ rw f) read_here
+                  | read ls after f ↦
+                      let all : found (leg_of n ∷ ls) after ≡ found w.others w.rest = sym (d ∙ rw f) ∙ read_here in
+                      let same_rest : after ≡ w.rest = cc in
+                      record { others = ls; after = f ∙ rw same_rest; whole = sym cc }
+                ]
+          ]
 
-      module _ {n next : ℕ} (e : x ≡ Value n next) where
-        next-leg : Next ys left n next w.others w.rest
-        unfolding number_told number_from legs_after leg_before
-        next-leg =
-            let number_read : read_number (drop at ys) ≡ found n (drop next ys) = sym (rw e at t) in
-            elim (value (last_is w.before (leg_of n).heading)) [
-              | inl r ↦ fault-found (leg-repeats (left - 1) w.before (drop at ys) number_read r) read_here
-              | inr r ↦
-                  let d = leg-differs (left - 1) w.before (drop at ys) number_read r in
-                  elim (outcome (read_legs (left - 1) (Some (leg_of n).heading) (drop next ys))) [
-                    | faulty k f ↦ fault-found {k = k} (d ∙ rw f) read_here
-                    | read ls after f ↦
-                        let all : found (leg_of n ∷ ls) after ≡ found w.others w.rest = sym (d ∙ rw f) ∙ read_here in
-                        let same_rest : after ≡ w.rest = cc in
-                        record { others = ls; after = f ∙ rw same_rest; whole = sym cc }
-                  ]
-            ]
+      pub leg-fits : to + (n / 4 + 1) ≤ length now
+      unfolding hops leg_of
+      leg-fits =
+          let m = next-leg in
+          let run = replicate (n / 4 + 1) (direction (n % 4)) in
+          let room = rw m.whole at w.room in
+          omega (arith, length-append run (hops m.others), length-replicate (n / 4 + 1) (direction (n % 4)))
 
-        pub leg-fits : to + (n / 4 + 1) ≤ length now
-        unfolding hops leg_of
-        leg-fits =
-            let m = next-leg in
-            let run = replicate (n / 4 + 1) (direction (n % 4)) in
-            let room = rw m.whole at w.room in
-            omega (arith, length-append run (hops m.others), length-replicate (n / 4 + 1) (direction (n % 4)))
-
-        pub writing_more : {to' : ℕ} {now' : List ℕ} → Puts now to (replicate (n / 4 + 1) (letter (direction (n % 4)))) to' now' →
-            Writing ys first legs out next to' (left - 1) now'
-        unfolding hops leg_of
-        writing_more {to'} {now'} p =
-            let m = next-leg in
-            let run = replicate (n / 4 + 1) (direction (n % 4)) in
-            let new = replicate (n / 4 + 1) (letter (direction (n % 4))) in
-            let room-here = rw m.whole at w.room in
-            let leads-here = rw (m.whole, letters-run (n / 4 + 1) (direction (n % 4)) (hops m.others)) at w.leads in
-            let same_size : length now' ≡ length now = rw p.stands (over-length now to new) in
-            record {
-              before = Some (direction (n % 4));
-              others = m.others;
-              rest = w.rest;
-              after = m.after;
-              size = same_size ∙ w.size;
-              room =
-                  omega (
-                    arith,
-                    length-append run (hops m.others),
-                    length-replicate (n / 4 + 1) (direction (n % 4)),
-                    length-replicate (n / 4 + 1) (letter (direction (n % 4))),
-                    p.next,
-                  );
-              leads = rw (p.stands, p.next) (sym (over-append now to new (letters (hops m.others))) ∙ leads-here);
-            }
+      pub writing_more : {to' left' : ℕ} {now' : List ℕ} → left' ≡ left - 1 → Puts now to (replicate (n / 4 + 1) (letter (direction (n % 4)))) to' now' →
+          Writing ys first legs out next to' left' now'
+      unfolding hops leg_of
+      writing_more {to'} {left'} {now'} g p =
+          let m = next-leg in
+          let run = replicate (n / 4 + 1) (direction (n % 4)) in
+          let new = replicate (n / 4 + 1) (letter (direction (n % 4))) in
+          let room-here = rw m.whole at w.room in
+          let leads-here = rw (m.whole, letters-run (n / 4 + 1) (direction (n % 4)) (hops m.others)) at w.leads in
+          let same_size : length now' ≡ length now = rw p.stands (over-length now to new) in
+          record {
+            before = Some (direction (n % 4));
+            others = m.others;
+            rest = w.rest;
+            after = rw g m.after;
+            size = same_size ∙ w.size;
+            room =
+                omega (
+                  arith,
+                  length-append run (hops m.others),
+                  length-replicate (n / 4 + 1) (direction (n % 4)),
+                  length-replicate (n / 4 + 1) (letter (direction (n % 4))),
+                  p.next,
+                );
+            leads = rw (p.stands, p.next) (sym (over-append now to new (letters (hops m.others))) ∙ leads-here);
+          }

@@ -8,72 +8,48 @@ ghost use Rattle.theory_legs.specs.Converting.{LegsToLetters};
 ghost use Rattle.to_letters.specs.Counted.{CountsLegs, CountsFile, Readable, letters_from};
 
 use buffers::{fill, put_byte};
-use groups::{Number, read_number};
+use groups::read_number;
 use headings::{direction, letter};
-use theory_legs::{Converted, LegRefusal};
+use theory_legs::LegRefusal;
 
-// Legs of a file: their number of letters, and the index after them; or why they are refused.
-#[derive(Clone, Copy)]
-pub enum Span {
-    Letters(usize, usize),
-    Refused(LegRefusal),
-}
-
-// A number of legs from index first of a file on. The code before the first leg's is 4, which no leg has.
-fn count_legs(file: &[u8], first: usize, legs: u32) -> Span
+// A number of legs from index first of a file on: their number of letters, and the index after them; or why they are refused.
+fn count_legs(file: &[u8], first: usize, legs: u32) -> Result<(usize, usize), LegRefusal>
     requires { legs ≤ 65535 }
     ensures { CountsLegs file.now first legs result }
 {
     let mut at = first;
     let mut total: usize = 0;
-    let mut before: u32 = 4;
-    let mut left = legs;
-    while 0 < left {
-        let number = read_number(file, at);
-        match number {
-            Number::CutShort => return Span::Refused(LegRefusal::CutShort),
-            Number::Bad => return Span::Refused(LegRefusal::BadNumber),
-            Number::Value(n, next) => {
-                if n % 4 == before {
-                    return Span::Refused(LegRefusal::SameDirection);
-                }
-                before = n % 4;
-                total += (n / 4 + 1) as usize;
-                at = next;
-            }
+    let mut before: Option<u32> = None;
+    for _ in 0..legs {
+        let (n, next) = read_number(file, at)?;
+        let code = n % 4;
+        if before == Some(code) {
+            return Err(LegRefusal::SameDirection);
         }
-        left -= 1;
+        before = Some(code);
+        total += (n / 4 + 1) as usize;
+        at = next;
     }
-    Span::Letters(total, at)
+    Ok((total, at))
 }
 
-// A file: its number of legs, the index of the first and the number of their letters; or why it is refused.
+// A file: its number of legs, the index of the first and the number of their letters.
 #[derive(Clone, Copy)]
-pub enum Counted {
-    Legs(u32, usize, usize),
-    Refused(LegRefusal),
+pub struct Counted {
+    pub legs: u32,
+    pub first: usize,
+    pub total: usize,
 }
 
-fn count_file(file: &[u8]) -> Counted
+fn count_file(file: &[u8]) -> Result<Counted, LegRefusal>
     ensures { CountsFile file.now result }
 {
-    let number = read_number(file, 0);
-    match number {
-        Number::CutShort => return Counted::Refused(LegRefusal::CutShort),
-        Number::Bad => return Counted::Refused(LegRefusal::BadNumber),
-        Number::Value(legs, first) => {
-            let span = count_legs(file, first, legs);
-            match span {
-                Span::Refused(why) => return Counted::Refused(why),
-                Span::Letters(total, end) => {
-                    if end < file.len() {
-                        return Counted::Refused(LegRefusal::LeftOver);
-                    }
-                    return Counted::Legs(legs, first, total);
-                }
-            }
-        }
+    let (legs, first) = read_number(file, 0)?;
+    let (total, end) = count_legs(file, first, legs)?;
+    if end < file.len() {
+        return Err(LegRefusal::LeftOver);
     }
+    Ok(Counted { legs, first, total })
 }
 
 // Writes the letters of the leg of a number from index to on, and answers the index after them.
@@ -97,33 +73,22 @@ fn write_letters(file: &[u8], first: usize, legs: u32, out: &mut [u8])
 {
     let mut at = first;
     let mut to: usize = 0;
-    let mut left = legs;
-    while 0 < left {
-        let number = read_number(file, at);
-        match number {
-            Number::CutShort => return,
-            Number::Bad => return,
-            Number::Value(n, next) => {
-                to = put_leg(out, to, n);
-                at = next;
-            }
-        }
-        left -= 1;
+    for _ in 0..legs {
+        let Ok((n, next)) = read_number(file, at) else {
+            return
+        };
+        to = put_leg(out, to, n);
+        at = next;
     }
 }
 
-pub fn legs_to_letters(file: &[u8], out: &mut [u8]) -> Converted
+pub fn legs_to_letters(file: &[u8], out: &mut [u8]) -> Result<usize, LegRefusal>
     ensures { LegsToLetters file.now out.old result out.new }
 {
-    let counted = count_file(file);
-    match counted {
-        Counted::Refused(why) => return Converted::Refused(why),
-        Counted::Legs(legs, first, total) => {
-            if out.len() < total {
-                return Converted::Refused(LegRefusal::Room);
-            }
-            write_letters(file, first, legs, out);
-            return Converted::Wrote(total);
-        }
+    let counted = count_file(file)?;
+    if out.len() < counted.total {
+        return Err(LegRefusal::Room);
     }
+    write_letters(file, counted.first, counted.legs, out);
+    Ok(counted.total)
 }

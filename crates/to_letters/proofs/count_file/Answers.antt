@@ -1,27 +1,23 @@
 -- The number of legs, the legs, and nothing after them. Assumes nothing.
-use Rattle.to_letters.proofs.Counting.{file-cut, file-bad, legs-few, file-refused, file-left, file-whole}
+use Rattle.std.proofs.lemmas.Result.{err_from_is_err_and}
+use Rattle.to_letters.proofs.Counting.{file-fault, legs-few, file-refused, file-left, file-whole}
 use Rattle.to_letters.proofs.count_file.Goals as goal
 
-pub returns-in-CutShort : goal.returns-in-CutShort
-returns-in-CutShort c = file-cut _ c.read_number-number.ensures c.in-CutShort.is
+pub returns-in_err-legs : goal.returns-in_err-legs
+returns-in_err-legs c =
+    let p = err_from_is_err_and c.from_residual.result c.from_residual.ensures.1 in
+    rw (p.1, p.2) (file-fault _ _ c.in_err-legs.ensures)
 
-pub returns-in-Bad : goal.returns-in-Bad
-returns-in-Bad c = file-bad _ c.read_number-number.ensures c.in-Bad.is
+pub count_legs-requires : goal.count_legs-requires
+count_legs-requires c = legs-few _ _ _ c.in_ok-legs.ensures
 
-pub count_legs-span-requires : goal.count_legs-span-requires
-count_legs-span-requires c = legs-few _ c.read_number-number.ensures c.in-Value.is
-
-pub returns-in-Refused : goal.returns-in-Refused
-returns-in-Refused c =
-    file-refused _ c.read_number-number.ensures c.in-Value.is
-    c.count_legs-span.ensures c.in-Refused.is
+pub returns-in_err-total : goal.returns-in_err-total
+returns-in_err-total c =
+    let p = err_from_is_err_and c.from_residual-in_err-total.result c.from_residual-in_err-total.ensures.1 in
+    rw (p.1, p.2) (file-refused _ _ _ c.in_ok-legs.ensures c.in_err-total.ensures)
 
 pub returns-then-end-file : goal.returns-then-end-file
-returns-then-end-file c =
-    file-left _ c.read_number-number.ensures c.in-Value.is
-    c.count_legs-span.ensures c.in-Letters.is c.if-end-file.true
+returns-then-end-file c = file-left _ _ _ c.in_ok-legs.ensures c.in_ok-total.ensures c.if-end-file.true
 
-pub returns-in-Letters : goal.returns-in-Letters
-returns-in-Letters c =
-    file-whole _ c.read_number-number.ensures c.in-Value.is
-    c.count_legs-span.ensures c.in-Letters.is c.if-end-file.false
+pub returns : goal.returns
+returns c = file-whole _ _ _ c.in_ok-legs.ensures c.in_ok-total.ensures c.if-end-file.false

@@ -1,25 +1,26 @@
--- Some legs are counted, left of them are not. Assumes nothing.
-use native.Mathlib.Omega.{arith}
-use Rattle.to_letters.proofs.Counting.{counting-none, counting-all, counting-cut, counting-bad, counting-repeats, number-few, counting_more}
+-- Some legs are counted, the others are left. Assumes nothing.
+use Rattle.std.proofs.Common.{◌≡◌, ◌≢◌, ◌-◌, ◌%◌, Some, rules, arith}
+use Rattle.std.proofs.lemmas.Result.{err_from_is_err_and}
+use Rattle.to_letters.proofs.Counting.{counting-none, counting-all, counting-fault, counting-repeats, counting_more}
 use Rattle.to_letters.proofs.count_legs.Goals as goal
 
-pub loop-left-init : goal.loop-left-init
-loop-left-init c = counting-none _ _ _ c.requires
+pub loop-init : goal.loop-init
+loop-init c = let all : c.args.legs - 0 ≡ c.args.legs = omega arith in rw all (counting-none _ _ _ c.requires)
 
-pub returns-in-CutShort : goal.returns-in-CutShort
-returns-in-CutShort c = counting-cut c.loop-left.invariant (omega arith) c.read_number-number.ensures c.in-CutShort.is
+pub returns-in_err-n : goal.returns-in_err-n
+returns-in_err-n c =
+    let p = err_from_is_err_and c.from_residual.result c.from_residual.ensures.1 in
+    rw (p.1, p.2) (counting-fault c.loop.invariant (omega arith) c.in_err-n.ensures)
 
-pub returns-in-Bad : goal.returns-in-Bad
-returns-in-Bad c = counting-bad c.loop-left.invariant (omega arith) c.read_number-number.ensures c.in-Bad.is
+pub returns-then-eq : goal.returns-then-eq
+returns-then-eq c =
+    let e : c.loop.before ≡ Some (c.in_ok-n.n % 4) = search rules in
+    counting-repeats c.loop.invariant (omega arith) _ _ c.in_ok-n.ensures e
 
-pub returns-then-n-before : goal.returns-then-n-before
-returns-then-n-before c = counting-repeats c.loop-left.invariant (omega arith) c.read_number-number.ensures c.in-Value.is c.if-n-before.true
-
-pub overflow_add-total-in-Value : goal.overflow_add-total-in-Value
-overflow_add-total-in-Value c = omega (arith, number-few c.loop-left.invariant (omega arith) c.read_number-number.ensures c.in-Value.is)
-
-pub loop-left-preserved : goal.loop-left-preserved
-loop-left-preserved c = counting_more c.loop-left.invariant (omega arith) c.read_number-number.ensures c.in-Value.is c.if-n-before.false
+pub loop-preserved : goal.loop-preserved
+loop-preserved c =
+    let d : c.loop.before ≢ Some (c.in_ok-n.n % 4) = search rules in
+    counting_more c.loop.invariant (omega arith) _ _ c.in_ok-n.ensures (omega arith) d
 
 pub returns : goal.returns
-returns c = counting-all c.loop-left.invariant (omega arith)
+returns c = counting-all c.loop.invariant (omega arith)

@@ -1,17 +1,18 @@
 -- What is counted is refused, or written. Assumes nothing.
+use Rattle.std.proofs.lemmas.Result.{err_from_is_err_and}
 use Rattle.to_letters.proofs.Answering.{answers-fault, answers-room, letters-writable, answers-wrote}
 use Rattle.to_letters.proofs.legs_to_letters.Goals as goal
 
-pub returns-in-Refused : goal.returns-in-Refused
-returns-in-Refused c = answers-fault _ _ c.count_file-counted.ensures c.in-Refused.is
+pub returns-in_err-counted : goal.returns-in_err-counted
+returns-in_err-counted c =
+    let p = err_from_is_err_and c.from_residual.result c.from_residual.ensures.1 in
+    rw (p.1, p.2) (answers-fault _ _ c.in_err-counted.ensures)
 
-pub returns-then-out-total : goal.returns-then-out-total
-returns-then-out-total c = answers-room _ _ c.count_file-counted.ensures c.in-Legs.is c.if-out-total.true
+pub returns-then-out-counted : goal.returns-then-out-counted
+returns-then-out-counted c = answers-room _ _ _ c.in_ok-counted.ensures c.if-out-counted.true
 
 pub write_letters-requires : goal.write_letters-requires
-write_letters-requires c = letters-writable _ _ c.count_file-counted.ensures c.in-Legs.is c.if-out-total.false
+write_letters-requires c = letters-writable _ _ _ c.in_ok-counted.ensures c.if-out-counted.false
 
-pub returns-in-Legs : goal.returns-in-Legs
-returns-in-Legs c =
-    answers-wrote _ _ c.count_file-counted.ensures c.in-Legs.is c.if-out-total.false
-    c.write_letters.ensures
+pub returns : goal.returns
+returns c = answers-wrote _ _ _ c.in_ok-counted.ensures c.if-out-counted.false c.write_letters.ensures
