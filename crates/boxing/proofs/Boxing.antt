@@ -1,5 +1,5 @@
 -- The refusals in their order, and where none applies what stands in the list. Assumes nothing.
-use Rattle.std.specs.Prelude.{Result, Ok, Err, ⊤}
+use Rattle.std.specs.Prelude.{Result, Ok, Err}
 use mathlib.Core.Path.{◌≡◌, refl, ap, sym, ◌∙◌}
 use mathlib.Core.List.{List, append-nil}
 use Prim.Native.Nat.{ℕ, zero, suc, ◌+◌, ◌*◌, ◌≤◌, ◌<◌}
@@ -10,7 +10,7 @@ use Rattle.mesh.specs.declared.Refusal.{Refusal}
 use Rattle.mesh.specs.declared.Refusal.TheVariants.{Room as NoRoom}
 use Rattle.mesh.specs.Mesh.{Mesh, mesh}
 use Rattle.mesh.specs.Tests.{first}
-use Rattle.mesh.specs.Numbers.{number, checked_number}
+use Rattle.mesh.specs.Numbers.{number}
 use Rattle.mesh.specs.Nodes.{how_many}
 use Rattle.mesh.specs.Maps.{map_tests}
 use Rattle.mesh.proofs.Numbers.{answer-refused, written-refused}
@@ -29,7 +29,8 @@ use Rattle.theory_boxes.proofs.Boxing.{lists-boxes}
 use Rattle.box_lists.specs.Lists.{box_at, boxes_from, Room}
 use Rattle.box_lists.specs.Sorting.{Sorts}
 use Rattle.box_lists.proofs.Places.{length-boxes, no-two-close}
-use Rattle.boxing.specs.Steps.{faults_from, Ready, Advances, Cleared}
+use Rattle.boxing.specs.Steps.{faults_from, Ready, Advances}
+use Rattle.boxing.proofs.Clearing.{Cleared}
 use Rattle.boxing.proofs.Faults.{from_all, from_end}
 
 -- a number of the boxes from box i on
@@ -51,10 +52,11 @@ module _ (columns rows : ℕ) (map list : List ℕ) where
   refused : (why : Refusal) → box_refusal columns rows map list ≡ number why → ListsBoxes columns rows map list (Err why) list
   refused why e = record { answers = rw e (sym (answer-refused why _)); writes = rw e (sym (written-refused why _ _)) }
 
-  pub map-refused : {x : Result ⊤ Refusal} {why : Refusal} → x ≡ Err why → checked_number x ≡ first (map_tests columns rows map) →
-      ListsBoxes columns rows map list (Err why) list
+  pub map-refused : {why : Refusal} → number why ≡ first (map_tests columns rows map) → ListsBoxes columns rows map list (Err why) list
   unfolding box_refusal
-  map-refused {why = why} e told = refused why (told-refused (map_tests columns rows map) _ told e)
+  map-refused {why} told =
+      let x : Result ℕ Refusal = Err why in
+      refused why (told-refused (map_tests columns rows map) _ {x = x} told refl)
 
   module _ (clear : first (map_tests columns rows map) ≡ 0) {n : ℕ} (count : n ≡ how_many 1 map) where
     abbrev w : Mesh

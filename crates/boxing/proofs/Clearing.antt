@@ -1,26 +1,24 @@
--- Zeros written one after another. Assumes nothing.
-use mathlib.Core.Path.{◌≡◌, refl, ◌∙◌}
-use mathlib.Core.List.{List}
-use Prim.Native.Nat.{ℕ, ◌+◌, ◌≤◌, ◌<◌}
-use native.Mathlib.Decide.{dec_lt}
-use native.Mathlib.Omega.{arith}
-use lib.ListN.{length, set, length-set}
-use lib.Seq.{get_or-set_same, get_or-set_other}
-use Rattle.boxing.specs.Steps.{Cleared}
+-- Zeros in a part of a list. Assumes nothing.
+use Rattle.std.proofs.Common.{◌≡◌, List, ℕ, ◌-◌, ◌≤◌, ◌<◌, length, get_or, replicate, rules, arith}
+use Rattle.std.proofs.lemmas.List.{places}
+use borrow.Rule.Slice.PartMut.{put_mid, mid_of}
+use lib.ListN.{length-take, length-drop, length-append, length-replicate}
 
-pub cleared-none : (xs : List ℕ) (i : ℕ) → Cleared xs i i xs
-cleared-none xs i = record { size = refl; clear = λ j p q. absurd (omega arith); before = λ j h. refl; after = λ j h. refl }
+-- the numbers from index i to before index k are 0, the others as they were
+pub record Cleared (xs : List ℕ) (i k : ℕ) (ys : List ℕ) : Type 0 where
+  pub size : length ys ≡ length xs
+  pub clear : (j : ℕ) → i ≤ j → j < k → get_or ys j 0 ≡ 0
+  pub before : (j : ℕ) → j < i → get_or ys j 0 ≡ get_or xs j 0
+  pub after : (j : ℕ) → k ≤ j → get_or ys j 0 ≡ get_or xs j 0
 
-pub cleared_more : (xs : List ℕ) (i k : ℕ) {ys : List ℕ} → i ≤ k → k < length ys → Cleared xs i k ys → Cleared xs i (k + 1) (set ys k 0)
-cleared_more xs i k {ys} p h c =
+pub cleared-part : (xs zs : List ℕ) (i k : ℕ) → i ≤ k → k ≤ length xs → zs ≡ replicate (length (mid_of i (k - i) xs)) 0 →
+    Cleared xs i k (put_mid i (k - i) xs zs)
+cleared-part xs zs i k p q e =
+    let part : length (mid_of i (k - i) xs) ≡ k - i = simp (length-take, length-drop) (omega arith) in
+    let zeros : zs ≡ replicate (k - i) 0 = rw (← part) e in
     record {
-      size = length-set ys k 0 ∙ c.size;
-      clear =
-          λ j l m.
-          elim (dec_lt j k) [
-            | yes b ↦ get_or-set_other ys k j 0 0 (λ e. omega arith) ∙ c.clear j l b
-            | no b ↦ let e : j ≡ k = omega arith in rw e (get_or-set_same ys k 0 0 h)
-          ];
-      before = λ j l. get_or-set_other ys k j 0 0 (λ e. omega arith) ∙ c.before j l;
-      after = λ j l. get_or-set_other ys k j 0 0 (λ e. omega arith) ∙ c.after j (omega arith);
+      size = simp (zeros, length-append, length-replicate, length-take, length-drop) (omega arith);
+      clear = λ j a b. rw zeros (search (rules, places));
+      before = λ j a. rw zeros (search (rules, places));
+      after = λ j a. rw zeros (search (rules, places));
     }

@@ -1,5 +1,5 @@
 pub mod Faults
 pub mod Rows
 pub mod Steps
-pub mod Clearing
 pub mod Boxing
+pub mod Clearing

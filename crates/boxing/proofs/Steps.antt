@@ -1,5 +1,5 @@
 -- What a step of merging does with the list, and one step after another. Assumes nothing.
-use mathlib.Core.Path.{◌≡◌, refl, sym, ◌∙◌}
+use mathlib.Core.Path.{◌≡◌, refl, sym, ◌∙◌, ap, subst}
 use mathlib.Core.Bool.{true}
 use mathlib.Core.List.Permᴰ
 use mathlib.Core.List.{List, [], ◌∷◌, ◌++◌}
@@ -7,7 +7,7 @@ use Prim.Native.Nat.{ℕ, ◌+◌, ◌-◌, ◌*◌, ◌≤◌, ◌<◌}
 use native.Mathlib.Omega.{arith}
 use borrow.Author.Tests.{ne_eqb}
 use lib.ListN.{length, get_or, length-append}
-use Rattle.mesh.specs.Mesh.{Mesh, mesh}
+use Rattle.mesh.specs.Mesh.{Mesh}
 use Rattle.mesh.specs.Nodes.{is_bad}
 use Rattle.nodes.specs.Sized.{Sized}
 use Rattle.nodes.proofs.Lookup.{is_bad-test, row_fits}
@@ -68,38 +68,35 @@ module _ {w : Mesh} {r : ℕ} {xs : List ℕ} {i n : ℕ} where
         }
 
 -- One node of a row.
-module _ {columns rows : ℕ} {map : List ℕ} {r i : ℕ} (on : OnRow columns rows map r i) where
-  abbrev w : Mesh
-  w = mesh columns rows map
+module _ {w : Mesh} (sized : Sized w.columns w.rows w.map) {r i : ℕ} (on : OnRow w r i) where
+  pub row-end : r * w.columns + w.columns ≤ length w.map
+  row-end = (row_fits sized on.row).0
 
-  pub row-end : r * columns + columns ≤ length map
-  row-end = (row_fits on.sized on.row).0
+  pub row-few : r * w.columns + w.columns ≤ 4096
+  row-few = (row_fits sized on.row).1
 
-  pub row-few : r * columns + columns ≤ 4096
-  row-few = (row_fits on.sized on.row).1
-
-  inside : i < length map
+  inside : i < length w.map
   inside = omega (arith, on.below, row-end)
 
   module _ {xs : List ℕ} {n : ℕ} (a : Ready w r xs i n) where
     -- it is sound
-    advances-sound : get_or map i 0 ≡ 0 → Advances w r xs i n (i + 1) n xs
+    advances-sound : get_or w.map i 0 ≡ 0 → Advances w r xs i n (i + 1) n xs
     unfolding is_bad
     advances-sound e =
         record { merges = rw (from-sound w i inside (rw e)) (begin (Permᴰ.refl _)); spread = a.spread; below = a.below; beyond = kept-all xs _ }
 
-    pub looks-sound : get_or map i 0 ≡ 0 → LooksAt w r xs i n (record { boxes = n; next = i + 1 }) xs
+    pub looks-sound : get_or w.map i 0 ≡ 0 → LooksAt w r xs i n (record { boxes = n; next = i + 1 }) xs
     looks-sound e = record { done = advances-sound e; onward = omega arith; within = omega (arith, on.below) }
 
     -- it is faulty: the box round it and those after it that are close is merged with the others
-    module _ (faulty : get_or map i 0 ≡ 0 → ⊥) where
-      fault : is_bad (get_or map i 0) ≡ true
-      fault = sym (is_bad-test (get_or map i 0)) ∙ rw (ne_eqb (get_or map i 0) 0 faulty)
+    module _ (faulty : get_or w.map i 0 ≡ 0 → ⊥) where
+      fault : is_bad (get_or w.map i 0) ≡ true
+      fault = sym (is_bad-test (get_or w.map i 0)) ∙ rw (ne_eqb (get_or w.map i 0) 0 faulty)
 
       some : 0 < length (faults_from w i)
       some = rw (from-fault w i inside fault) (omega arith)
 
-      module _ {last : ℕ} (g : Group map (r * columns + columns) i last) {b : Box} (eb : b ≡ row_box r (i - r * columns) (last - r * columns)) where
+      module _ {last : ℕ} (g : Group w.map (r * w.columns + w.columns) i last) {b : Box} (eb : b ≡ row_box r (i - r * w.columns) (last - r * w.columns)) where
         pub fault-ready : Room xs (n + 1) × Spread xs n × Ends xs n b
         unfolding row_box
         fault-ready = (record { room = omega (arith, a.room.room, some) }, a.spread, rw eb (record { others = a.below; tall = omega arith }))
@@ -110,7 +107,7 @@ module _ {columns rows : ℕ} {map : List ℕ} {r i : ℕ} (on : OnRow columns r
             record {
               merges =
                   merges-from (append-order (boxes_from xs 0 n) (faults_from w i))
-                  (merges-trans (merges-beside (boxes_from xs 0 n) (chain-merges columns rows map on.sized r on.row i on.from fault g.chain))
+                  (merges-trans (merges-beside (boxes_from xs 0 n) (chain-merges w.columns w.rows w.map sized r on.row i on.from fault g.chain))
                   (merges-from (Permᴰ.cons refl (append-order (faults_from w (last + 1)) (boxes_from xs 0 n)))
                   (merges-beside (faults_from w (last + 1)) (rw eb at t.merges))));
               spread = t.spread;
@@ -121,55 +118,50 @@ module _ {columns rows : ℕ} {map : List ℕ} {r i : ℕ} (on : OnRow columns r
         pub looks-fault : {k : ℕ} {ys : List ℕ} → TakesIn xs n b k ys → LooksAt w r xs i n (record { boxes = k; next = last + 1 }) ys
         looks-fault t = record { done = advances-fault t; onward = omega (arith, chain-from g.chain); within = omega (arith, chain-inside g.chain) }
 
--- Of a row the nodes before index i are looked at.
-pub record Along (columns rows : ℕ) (map : List ℕ) (r : ℕ) (xs : List ℕ) (n end i k : ℕ) (ys : List ℕ) : Type 0 where
-  pub ends : end ≡ r * columns + columns
-  pub from : r * columns ≤ i
-  pub within : i ≤ end
-  pub done : Advances (mesh columns rows map) r xs (r * columns) n i k ys
+-- Of a row the nodes before a step's next index are looked at.
+pub record Along (w : Mesh) (r : ℕ) (xs : List ℕ) (n : ℕ) (x : Step) (ys : List ℕ) : Type 0 where
+  pub from : r * w.columns ≤ x.next
+  pub within : x.next ≤ r * w.columns + w.columns
+  pub done : Advances w r xs (r * w.columns) n x.next x.boxes ys
 
-module _ {columns rows : ℕ} {map : List ℕ} {r : ℕ} {xs : List ℕ} {n : ℕ} (ready : Ready (mesh columns rows map) r xs (r * columns) n) where
-  pub along-none : Along columns rows map r xs n (r * columns + columns) (r * columns) n xs
-  along-none = record { ends = refl; from = omega arith; within = omega arith; done = advances-none ready }
+module _ {w : Mesh} {r : ℕ} {xs : List ℕ} {n : ℕ} (ready : Ready w r xs (r * w.columns) n) where
+  pub along-none : Along w r xs n (record { boxes = n; next = r * w.columns }) xs
+  along-none = record { from = omega arith; within = omega arith; done = advances-none ready }
 
-  module _ {end i k : ℕ} {ys : List ℕ} (a : Along columns rows map r xs n end i k ys) where
-    pub along-ready : Sized columns rows map → r < rows → i < end → OnRow columns rows map r i × Ready (mesh columns rows map) r ys i k
-    along-ready s on h =
-        (record { sized = s; row = on; from = a.from; below = omega (arith, a.ends) }, advances-ready a.done (omega arith) ready.room)
+  module _ {x : Step} {ys : List ℕ} (a : Along w r xs n x ys) where
+    pub along-ready : r < w.rows → x.next < r * w.columns + w.columns → OnRow w r x.next × Ready w r ys x.next x.boxes
+    along-ready on h = (record { row = on; from = a.from; below = h }, advances-ready a.done (omega arith) ready.room)
 
-    pub along-more : {x : Step} {zs : List ℕ} → LooksAt (mesh columns rows map) r ys i k x zs → Along columns rows map r xs n end x.next x.boxes zs
+    pub along-more : {y : Step} {zs : List ℕ} → LooksAt w r ys x.next x.boxes y zs → Along w r xs n y zs
     along-more b =
         record {
-          ends = a.ends;
           from = omega (arith, a.from, b.onward);
-          within = omega (arith, a.ends, b.within);
+          within = b.within;
           done = advances-both a.done b.done;
         }
 
-    pub along-all : end ≤ i → MergesRow (mesh columns rows map) r xs n k ys
-    along-all h = let e : i ≡ r * columns + columns = omega (arith, a.within, a.ends) in rw e at a.done
+    pub along-all : r * w.columns + w.columns ≤ x.next → MergesRow w r xs n x.boxes ys
+    along-all h = let e : x.next ≡ r * w.columns + w.columns = omega (arith, a.within) in rw e at a.done
 
 -- Row by row: the rows before row r are looked at.
-pub record Rowwise (w : Mesh) (rows : ℕ) (xs : List ℕ) (r n : ℕ) (ys : List ℕ) : Type 0 where
-  pub within : r ≤ rows
-  pub done : Advances w r xs 0 0 (r * w.columns) n ys
+abbrev pub Rowwise : Mesh → List ℕ → ℕ → ℕ → List ℕ → Type 0
+Rowwise w xs r n ys = Advances w r xs 0 0 (r * w.columns) n ys
 
-module _ {columns rows : ℕ} {map : List ℕ} {xs : List ℕ} (ready : Ready (mesh columns rows map) 0 xs 0 0) where
-  pub rows_none : Rowwise (mesh columns rows map) rows xs 0 0 xs
-  rows_none = let e : 0 * columns ≡ 0 = omega arith in record { within = omega arith; done = rw e (advances-none ready) }
+module _ {w : Mesh} {xs : List ℕ} (ready : Ready w 0 xs 0 0) where
+  pub rows_none : Rowwise w xs 0 0 xs
+  rows_none = let e : 0 * w.columns ≡ 0 = omega arith in rw e (advances-none ready)
 
-  module _ {r n : ℕ} {ys : List ℕ} (a : Rowwise (mesh columns rows map) rows xs r n ys) where
-    pub row-ready : Ready (mesh columns rows map) r ys (r * columns) n
-    row-ready = advances-ready a.done (omega arith) ready.room
+  module _ {r n : ℕ} {ys : List ℕ} (a : Rowwise w xs r n ys) where
+    pub row-ready : Ready w r ys (r * w.columns) n
+    row-ready = advances-ready a (omega arith) ready.room
 
-    pub rows_more : {k : ℕ} {zs : List ℕ} → r < rows → MergesRow (mesh columns rows map) r ys n k zs →
-        Rowwise (mesh columns rows map) rows xs (r + 1) k zs
-    rows_more h b =
-        let e : (r + 1) * columns ≡ r * columns + columns = omega arith in
-        record { within = omega arith; done = rw e (advances-later (advances-both a.done b) (omega arith)) }
+    pub rows_more : {k : ℕ} {zs : List ℕ} → MergesRow w r ys n k zs → Rowwise w xs (r + 1) k zs
+    rows_more b =
+        let e : (r + 1) * w.columns ≡ r * w.columns + w.columns = omega arith in
+        rw e (advances-later (advances-both a b) (omega arith))
 
-    pub rows_all : Sized columns rows map → rows ≤ r → Advances (mesh columns rows map) rows xs 0 0 (length map) n ys
-    rows_all s h =
-        let e : r ≡ rows = omega (arith, a.within) in
-        let d : rows * columns ≡ length map = omega (arith, s.size) in
-        rw (e, d) at a.done
+    pub rows_all : Sized w.columns w.rows w.map → r ≡ w.rows → Advances w w.rows xs 0 0 (length w.map) n ys
+    rows_all s e =
+        let size : w.rows * w.columns ≡ length w.map = omega (arith, s.size) in
+        let d : r * w.columns ≡ length w.map = ap (λ k. k * w.columns) e ∙ size in
+        subst (λ k. Advances w k xs 0 0 (length w.map) n ys) e (rw d at a)

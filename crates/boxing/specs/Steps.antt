@@ -1,9 +1,8 @@
 -- The faults of a map merged one after another, in a lent list. Assumes nothing.
-use Rattle.std.specs.Prelude.{◌≡◌, List, ◌++◌, ℕ, ◌+◌, ◌-◌, ◌*◌, ◌/◌, ◌%◌, ◌≤◌, ◌<◌, length, get_or}
+use Rattle.std.specs.Prelude.{List, ◌++◌, ℕ, ◌+◌, ◌-◌, ◌*◌, ◌/◌, ◌%◌, ◌≤◌, ◌<◌, length, get_or}
 use Rattle.mesh.specs.Mesh.{Mesh}
 use Rattle.mesh.specs.Nodes.{is_bad}
 use Rattle.mesh.specs.Blocks.{select}
-use Rattle.nodes.specs.Sized.{Sized}
 use Rattle.theory_boxes.specs.Boxes.{Box, node_box}
 use Rattle.theory_boxes.specs.Merging.{Merges}
 use Rattle.box_lists.specs.Lists.{boxes_from, Room, Kept}
@@ -11,11 +10,10 @@ use Rattle.box_lists.specs.Merging.{Spread, Below}
 use Rattle.boxing.specs.declared.Step.{Step}
 
 -- index i of a map lies in row r
-pub record OnRow (columns rows : ℕ) (map : List ℕ) (r i : ℕ) : Type 0 where
-  pub sized : Sized columns rows map
-  pub row : r < rows
-  pub from : r * columns ≤ i
-  pub below : i < r * columns + columns
+pub record OnRow (w : Mesh) (r i : ℕ) : Type 0 where
+  pub row : r < w.rows
+  pub from : r * w.columns ≤ i
+  pub below : i < r * w.columns + w.columns
 
 -- the boxes of the faults from index i of the map on
 unfoldable pub faults_from : Mesh → ℕ → List Box
@@ -43,10 +41,3 @@ pub record LooksAt (w : Mesh) (r : ℕ) (xs : List ℕ) (i n : ℕ) (x : Step) (
 -- all nodes of row r are looked at
 abbrev pub MergesRow : Mesh → ℕ → List ℕ → ℕ → ℕ → List ℕ → Type 0
 MergesRow w r xs n k ys = Advances w r xs (r * w.columns) n (r * w.columns + w.columns) k ys
-
--- the numbers from index i to before index k are 0, the others as they were
-pub record Cleared (xs : List ℕ) (i k : ℕ) (ys : List ℕ) : Type 0 where
-  pub size : length ys ≡ length xs
-  pub clear : (j : ℕ) → i ≤ j → j < k → get_or ys j 0 ≡ 0
-  pub before : (j : ℕ) → j < i → get_or ys j 0 ≡ get_or xs j 0
-  pub after : (j : ℕ) → k ≤ j → get_or ys j 0 ≡ get_or xs j 0

@@ -1,29 +1,16 @@
 -- The faults of the rows before row r are merged. Assumes nothing.
-use native.Mathlib.Omega.{arith}
+use Rattle.std.proofs.Common.{arith}
 use Rattle.boxing.proofs.Steps.{rows_none, row-ready, rows_more, rows_all}
 use Rattle.boxing.proofs.merge_faults.Goals as goal
 
 pub loop-r-init : goal.loop-r-init
-loop-r-init c = rows_none c.requires.1
+loop-r-init c = rows_none c.requires
 
 pub merge_row-n-requires : goal.merge_row-n-requires
-merge_row-n-requires c =
-    let pre = c.requires in
-    (pre.0, c.loop-r-test.true, row-ready pre.1 c.loop-r.invariant)
-
-pub overflow_add-r : goal.overflow_add-r
-overflow_add-r c = omega (arith, c.loop-r-test.true)
-
-pub loop-r-smaller : goal.loop-r-smaller
-loop-r-smaller c = omega (arith, c.loop-r-test.true)
+merge_row-n-requires c = (rw (← c.nodes.view_is) c.loop-r-test.true, row-ready c.requires c.loop-r.invariant)
 
 pub loop-r-preserved : goal.loop-r-preserved
-loop-r-preserved c = rows_more c.requires.1 c.loop-r.invariant c.loop-r-test.true c.merge_row-n.ensures
-
-pub shape_of-list : goal.shape_of-list
-shape_of-list c = c.loop-r.invariant.done.beyond.size
+loop-r-preserved c = rows_more c.requires c.loop-r.invariant c.merge_row-n.ensures
 
 pub returns : goal.returns
-returns c =
-    let pre = c.requires in
-    rows_all pre.1 c.loop-r.invariant pre.0 c.loop-r-test.false
+returns c = rows_all c.requires c.loop-r.invariant (rw (← c.nodes.view_is) c.nodes.invariant) (rw (← c.nodes.view_is) (omega arith))
