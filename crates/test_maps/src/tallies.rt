@@ -1,31 +1,77 @@
-// What was tried and what held: for thing k, below 32, on network 1 or 2 the numbers at i and 64 + i, where i is k, or 32 + k on network 1.
+// What was tried, on either network, and what of it held.
 ghost use Rattle.std.specs.Prelude.{◌<◌};
 
-use std::io;
-use std::num::wrapping_add_u64;
+use std::fmt;
 
-fn place(network: u8, k: usize) -> usize
+// What is tried: requests, by the refusal that they are to have or none; the marks of a map; the bound on a route's hops; hand-ins, by the number
+// of what is to be wrong with them, or 0.
+#[derive(Clone, Copy)]
+pub enum Thing {
+    Served,
+    Refused(u32),
+    Marked,
+    Bounded,
+    Judged(u32),
+}
+
+impl Thing {
+    // Each has a number below 32.
+    fn number(self) -> u32
+        ensures { result < 32 }
+    {
+        let n = match self {
+            Thing::Served => 0,
+            Thing::Refused(n) => n,
+            Thing::Marked => 11,
+            Thing::Bounded => 12,
+            Thing::Judged(n) => n.wrapping_add(14),
+        };
+        n % 32
+    }
+}
+
+// How often something held, and how often it was tried.
+#[derive(Clone, Copy)]
+pub struct Tally {
+    held: u64,
+    tried: u64,
+}
+
+impl fmt::Display for Tally {
+    fn fmt<W: fmt::Write>(&self, f: &mut fmt::Formatter<W>) -> fmt::Result {
+        write!(f, "{} of {}", self.held, self.tried)
+    }
+}
+
+// A tally for each thing on either network.
+#[derive(Drop)]
+pub struct Tallies {
+    list: [Tally; 64],
+}
+
+fn place(network: u8, thing: Thing) -> usize
     ensures { result < 64 }
 {
-    32 * (network % 2) as usize + k % 32
+    (32 * u32::from(network % 2) + thing.number()) as usize
 }
 
-// Counts a trial of thing k.
-pub fn count(tallies: &mut [u64; 128], network: u8, k: usize, held: bool) {
-    let i = place(network, k);
-    tallies[i] = wrapping_add_u64(tallies[i], 1);
-    tallies[64 + i] = wrapping_add_u64(tallies[64 + i], held as u64);
-}
+impl Tallies {
+    pub fn new() -> Tallies {
+        Tallies {
+            list: [Tally { held: 0, tried: 0 }; 64],
+        }
+    }
 
-// Prints what thing k is, how often it held and how often it was tried.
-pub fn print(
-    rt: &impl Print,
-    what: &[u8],
-    tallies: &[u64; 128],
-    network: u8,
-    k: usize,
-) -> io::Result<()> {
-    let i = place(network, k);
-    rt.write_all(what)?;
-    println!(rt; "{} of {}", tallies[64 + i], tallies[i])
+    pub fn of(&self, network: u8, thing: Thing) -> Tally {
+        self.list[place(network, thing)]
+    }
+
+    pub fn count(&mut self, network: u8, thing: Thing, held: bool) {
+        let i = place(network, thing);
+        let old = self.list[i];
+        self.list[i] = Tally {
+            held: old.held.wrapping_add(u64::from(held)),
+            tried: old.tried.wrapping_add(1),
+        };
+    }
 }
