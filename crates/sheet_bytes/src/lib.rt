@@ -1,35 +1,82 @@
 // A sheet being read: where it stands, and what its next bytes say.
 #![tactic(auto)]
 
-ghost use Rattle.std.specs.Prelude.{◌≡◌, ℕ, ◌≤◌, length};
-ghost use Rattle.sheet_bytes.specs.declared.Found.TheVariants.{Line};
+ghost use Rattle.std.specs.Prelude.{◌≡◌, List, ℕ, [], ◌∷◌, ◌++◌, ◌≤◌, ◌<◌, ◌==◌, length, take, leb, position};
 ghost use Rattle.sheet_bytes.specs.Reading.{next_line, Begins};
-ghost use Rattle.sheet_bytes.specs.Next.{WholeLine, ReadsNext};
+ghost use Rattle.sheet_bytes.specs.Next.{ReadsByte, ReadsNext};
 
 use sheet_state::Sheet;
 use sheet_words::{Command, read_line};
+use std::marker::Model;
 use theory_sheet::Phase;
 
-// Where a sheet stands: what the lines before this one have said, its number, how many bytes of it are held, and whether the run is over.
-#[derive(Clone, Copy)]
-pub struct Standing {
-    pub sheet: Sheet,
-    pub number: u32,
-    pub held: usize,
-    pub over: bool,
+// The bytes of a line that are held: at most 20. In a clause they are a list.
+#[derive(Drop)]
+pub struct Held {
+    bytes: [u8; 20],
+    len: usize,
 }
 
-// A sheet being read, with the bytes that are held.
-#[derive(Clone, Copy)]
+impl Model for Held {
+    ghost use Rattle.std.specs.Prelude.{List, ℕ, ◌≤◌, take};
+
+    ghost Value = { List ℕ };
+
+    ghost view = { λ h. take h.len h.bytes };
+
+    ghost invariant = { λ h. h.len ≤ 20 };
+}
+
+impl Held {
+    fn none() -> Held
+        ensures { result ≡ [] }
+    {
+        Held {
+            bytes: [0; 20],
+            len: 0,
+        }
+    }
+
+    fn bytes(&self) -> &[u8]
+        ensures { result.now ≡ self.now }
+    {
+        &self.bytes[..self.len]
+    }
+
+    pub fn is_empty(&self) -> bool
+        ensures { result ≡ (length self.now == 0) }
+    {
+        self.len == 0
+    }
+
+    fn is_full(&self) -> bool
+        ensures { result ≡ leb 20 (length self.now) }
+    {
+        20 <= self.len
+    }
+
+    fn push(&mut self, x: u8)
+        requires { length self.old < 20 }
+        ensures { self.new ≡ self.old ++ (x ∷ []) }
+    {
+        self.bytes[self.len] = x;
+        self.len += 1;
+    }
+}
+
+// A sheet being read: what the lines before this one have said, its number, what is held of it, and whether the run is over.
+#[derive(Drop)]
 pub struct Reader {
-    pub standing: Standing,
-    pub hold: [u8; 20],
+    pub sheet: Sheet,
+    pub number: u32,
+    pub held: Held,
+    pub over: bool,
 }
 
 // What was read: a line, or a byte of one that is held.
 #[derive(Clone, Copy)]
 pub enum Read {
-    Line(Command),
+    Line(Option<Command>),
     Part,
 }
 
@@ -40,104 +87,71 @@ pub struct Next {
     pub taken: usize,
 }
 
-// How many bytes a whole line has before its newline.
-#[derive(Clone, Copy)]
-enum Found {
-    Line(usize),
-    Nothing,
-}
-
 // A sheet of which nothing is read yet.
 pub fn begin() -> Reader
     ensures { Begins result }
 {
-    let standing = Standing {
+    Reader {
         sheet: Sheet {
             phase: Phase::Start,
             columns: 0,
             rows: 0,
         },
         number: 1,
-        held: 0,
+        held: Held::none(),
         over: false,
-    };
-    Reader {
-        standing,
-        hold: [0; 20],
     }
 }
 
-// After line `number`.
-pub fn next_line(number: u32, sheet: Sheet, over: bool) -> Standing
-    requires { number ≤ 65536 }
-    ensures { result ≡ next_line number sheet over }
-{
-    Standing {
-        sheet,
-        number: number + 1,
-        held: 0,
-        over,
+impl Reader {
+    // After a line.
+    pub fn next_line(&mut self, sheet: Sheet, over: bool)
+        requires { self.old.number ≤ 65536 }
+        ensures { self.new ≡ next_line self.old.number sheet over }
+    {
+        self.sheet = sheet;
+        self.number += 1;
+        self.held = Held::none();
+        self.over = over;
     }
 }
 
-fn least(a: usize, b: usize) -> usize
-    ensures { (result ≤ a) × (result ≤ b) }
+// Where the newline of a whole line stands. It is looked for among 21 bytes: no well-formed line has more than 20 before its newline.
+fn find_newline(bytes: &[u8]) -> Option<usize>
+    ensures { result ≡ position (λ x. x == 10) (take 21 bytes.now) }
 {
-    if a < b {
-        return a;
-    }
-    b
+    bytes.iter().take(21).position(|x| *x == b'\n')
 }
 
-// A whole line of which nothing is held yet. It is looked for among 21 bytes: no well-formed line has more than 20 before its newline.
-fn find_line(held: usize, bytes: &[u8]) -> Found
-    ensures { (i : ℕ) → result ≡ Line i → WholeLine held bytes.now i }
+// A byte more of the line that is held. A line of 20 bytes that goes on is malformed, whatever follows.
+fn read_byte(number: u32, byte: u8, held: &mut Held) -> Read
+    ensures { ReadsByte number byte held.old result held.new }
 {
-    if held != 0 {
-        return Found::Nothing;
-    }
-    let n = least(bytes.len(), 21);
-    let mut i = 0;
-    while i < n {
-        if bytes[i] == b'\n' {
-            return Found::Line(i);
-        }
-        i += 1;
-    }
-    Found::Nothing
-}
-
-// The next line of which some bytes are held, or a byte more of it. A line of 20 bytes that goes on is malformed, whatever follows.
-pub fn read_next(number: u32, held: usize, bytes: &[u8], hold: &mut [u8]) -> Next
-    requires { (held ≤ 20) × (20 ≤ length hold.old) × (1 ≤ length bytes.now) }
-    ensures { ReadsNext number held bytes.now hold.old result hold.new }
-{
-    let found = find_line(held, bytes);
-    if let Found::Line(end) = found {
-        let command = read_line(number, &bytes[..end]);
-        let taken = end + 1;
-        return Next {
-            read: Read::Line(command),
-            taken,
-        };
-    }
-    let byte = bytes[0];
     if byte == b'\n' {
-        let command = read_line(number, &hold[..held]);
-        return Next {
-            read: Read::Line(command),
-            taken: 1,
-        };
+        Read::Line(read_line(number, held.bytes()))
+    } else if held.is_full() {
+        Read::Line(None)
+    } else {
+        held.push(byte);
+        Read::Part
     }
-    if 20 <= held {
-        return Next {
-            read: Read::Line(Command::Malformed),
-            taken: 1,
-        };
+}
+
+// The next line, of which some bytes may be held, or a byte more of it.
+pub fn read_next(number: u32, bytes: &[u8], held: &mut Held) -> Next
+    requires { 1 ≤ length bytes.now }
+    ensures { ReadsNext number bytes.now held.old result held.new }
+{
+    if held.is_empty() {
+        if let Some(end) = find_newline(bytes) {
+            return Next {
+                read: Read::Line(read_line(number, &bytes[..end])),
+                taken: end + 1,
+            };
+        }
     }
-    hold[held] = byte;
     Next {
-        read: Read::Part,
+        read: read_byte(number, bytes[0], held),
         taken: 1,
     }
 }
