@@ -1,43 +1,37 @@
 // The operation "Route".
 #![tactic(auto)]
 
-ghost use Rattle.mesh.specs.Mesh.{mesh};
 ghost use Rattle.mesh.specs.Routing.{Routes};
-ghost use Rattle.blocks.specs.Marking.{Marking};
 ghost use Rattle.routing.specs.Marked.{RoutesOn};
 
+use blocks::Marks;
 use marking::mark_map;
-use mesh::{Checked, Last, Network, Packet, Place, Refusal, Routed};
+use mesh::{Network, Packet, Place, Refusal};
 use requests::check_request;
 use walk::{has_room, straight};
 
 // Route on a marking already made: refusals 6 to 10, then the letters.
 pub fn route_marked(
     network: Network,
-    columns: u32,
-    rows: u32,
-    marks: &[u8],
+    marks: &Marks,
     s: Place,
     d: Place,
     out: &mut [u8],
-) -> Routed
-    requires { Marking columns rows marks.now }
-    ensures { RoutesOn network (mesh columns rows marks.now) s d out.old result out.new }
+) -> Result<u32, Refusal>
+    ensures { RoutesOn network marks.now s d out.old result out.new }
 {
-    let checked = check_request(network, columns, rows, marks, s, d);
-    if let Checked::Refused(why) = checked {
-        return Routed::Refused(why);
-    }
+    check_request(network, marks, s, d)?;
+    let nodes = &marks.nodes;
+    let _ = &nodes.columns;
     let fresh = Packet {
         place: s,
-        last: Last::None,
+        last: None,
         destination: d,
     };
-    if !has_room(network, columns, rows, marks, fresh, out.len()) {
-        return Routed::Refused(Refusal::Room);
+    if !has_room(network, nodes, fresh, out.len()) {
+        return Err(Refusal::Room);
     }
-    let hops = straight(network, columns, rows, marks, fresh, out, 0);
-    Routed::Hops(hops)
+    Ok(straight(network, nodes, fresh, out, 0))
 }
 
 // Route: writes the letters of the hops, and answers their number.
@@ -49,13 +43,10 @@ pub fn route(
     s: Place,
     d: Place,
     out: &mut [u8],
-) -> Routed
+) -> Result<u32, Refusal>
     ensures { Routes network columns rows map.now s d out.old result out.new }
 {
-    let mut marks = [0u8; 4096];
-    let checked = mark_map(columns, rows, map, &mut marks);
-    if let Checked::Refused(why) = checked {
-        return Routed::Refused(why);
-    }
-    route_marked(network, columns, rows, &marks[..map.len()], s, d, out)
+    let mut marks = [0; 4096];
+    let marks = mark_map(columns, rows, map, &mut marks)?;
+    route_marked(network, &marks, s, d, out)
 }

@@ -1,36 +1,31 @@
 -- Refusals 6 to 9 are as they were told; where none applies the hops lead to the destination, and are written if they fit. Assumes nothing.
-use mathlib.Core.Path.{sym, ◌∙◌}
-use borrow.Author.Tests.{not-true, not-false}
-use Rattle.mesh.proofs.Tests.{told-clear}
-use Rattle.mesh.proofs.Requests.{request}
+use Rattle.std.proofs.Common.{sym, ◌∙◌}
+use Rattle.std.proofs.lemmas.Result.{err_from_is_err_and}
 use Rattle.routing.proofs.Routed.{starts, rest-hops, request-refused, room-refused, routed}
 use Rattle.routing.proofs.route_marked.Goals as goal
 
-pub returns-in-Refused : goal.returns-in-Refused
-returns-in-Refused c = request-refused _ _ _ _ _ c.in-Refused.is c.check_request-checked.ensures
+pub returns-in_err-check_request : goal.returns-in_err-check_request
+returns-in_err-check_request c =
+    let p = err_from_is_err_and c.from_residual.result c.from_residual.ensures.1 in
+    rw (p.1, p.2) (request-refused _ _ _ _ _ _ c.in_err-check_request.ensures)
 
 pub has_room-requires : goal.has_room-requires
 has_room-requires c =
-    let marks = c.requires in
-    let clear = told-clear _ c.in_default.is c.check_request-checked.ensures in
-    starts _ _ _ _ _ _ marks (request _ _ _ clear)
+    starts _ _ _ c.nodes.view_is c.nodes.invariant c.marks.invariant (rw (← c.marks.view_is) at c.in_ok-check_request.ensures)
 
 pub returns-then-not-has_room : goal.returns-then-not-has_room
 returns-then-not-has_room c =
-    let marks = c.requires in
-    let clear = told-clear _ c.in_default.is c.check_request-checked.ensures in
-    room-refused _ _ _ _ _ clear (rest-hops _ _ _ _ _ _ marks (request _ _ _ clear)) (sym c.has_room.ensures ∙ not-true _ c.if-not-has_room.true-raw)
+    let clear = rw (← c.marks.view_is) at c.in_ok-check_request.ensures in
+    let hops = rest-hops _ _ _ c.nodes.view_is c.nodes.invariant c.marks.invariant clear in
+    rw (← c.marks.view_is) (room-refused _ _ _ _ _ clear hops (sym c.has_room.ensures ∙ c.if-not-has_room.true))
 
-pub straight-hops-requires : goal.straight-hops-requires
-straight-hops-requires c =
-    let marks = c.requires in
-    let clear = told-clear _ c.in_default.is c.check_request-checked.ensures in
-    starts _ _ _ _ _ _ marks (request _ _ _ clear)
+pub straight-requires : goal.straight-requires
+straight-requires c =
+    starts _ _ _ c.nodes.view_is c.nodes.invariant c.marks.invariant (rw (← c.marks.view_is) at c.in_ok-check_request.ensures)
 
 pub returns : goal.returns
 returns c =
-    let marks = c.requires in
-    let clear = told-clear _ c.in_default.is c.check_request-checked.ensures in
-    let fits = sym c.has_room.ensures ∙ not-false _ c.if-not-has_room.false-raw in
-    routed _ _ _ _ _ clear (rest-hops _ _ _ _ _ _ marks (request _ _ _ clear)) fits c.straight-hops.ensures.counts
-    c.straight-hops.ensures.writes
+    let clear = rw (← c.marks.view_is) at c.in_ok-check_request.ensures in
+    let hops = rest-hops _ _ _ c.nodes.view_is c.nodes.invariant c.marks.invariant clear in
+    rw (← c.marks.view_is)
+    (routed _ _ _ _ _ clear hops (sym c.has_room.ensures ∙ c.if-not-has_room.false) c.straight.ensures.counts c.straight.ensures.writes)
