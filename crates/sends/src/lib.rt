@@ -2,12 +2,12 @@
 #![tactic(auto)]
 
 ghost use Rattle.std.specs.Prelude.{◌≡◌, ◌≤◌, ◌<◌, ◌+◌, ◌*◌, length};
-ghost use Rattle.mesh.specs.Mesh.{mesh};
-ghost use Rattle.blocks.specs.Marking.{Marking};
 ghost use Rattle.theory_batch.specs.Sends.{uneven};
 ghost use Rattle.sends.specs.Sends.{send_at, wrote, route_call_on, RoutesSend};
 
-use mesh::{Column, Network, Place, Routed, Row};
+use blocks::Marks;
+use mesh::{Network, Refusal};
+use numbers::place_of;
 use routing::route_marked;
 use theory_batch::Send;
 
@@ -24,50 +24,29 @@ pub fn send_at(sends: &[u32], i: usize) -> Send
     ensures { result ≡ send_at sends.now i }
 {
     let k = 4 * i;
-    let source = Place {
-        row: Row(sends[k]),
-        column: Column(sends[k + 1]),
-    };
-    let destination = Place {
-        row: Row(sends[k + 2]),
-        column: Column(sends[k + 3]),
-    };
     Send {
-        source,
-        destination,
+        source: place_of(sends[k], sends[k + 1]),
+        destination: place_of(sends[k + 2], sends[k + 3]),
     }
 }
 
 // How many letters a call of Route has written.
-pub fn wrote(r: Routed) -> usize
+pub fn wrote(r: Result<u32, Refusal>) -> usize
     ensures { result ≡ wrote r }
 {
-    match r {
-        Routed::Hops(n) => return n as usize,
-        Routed::Refused(_) => return 0,
-    }
+    r.unwrap_or(0) as usize
 }
 
 // Route for a send, with the output that is free: from index at on.
 pub fn route_send(
     network: Network,
-    columns: u32,
-    rows: u32,
-    marks: &[u8],
+    marks: &Marks,
     x: Send,
     out: &mut [u8],
     at: usize,
-) -> Routed
-    requires { Marking columns rows marks.now × (at ≤ length out.old) }
-    ensures { RoutesSend (route_call_on network (mesh columns rows marks.now)) x out.old at result out.new }
+) -> Result<u32, Refusal>
+    requires { at ≤ length out.old }
+    ensures { RoutesSend (route_call_on network marks.now) x out.old at result out.new }
 {
-    route_marked(
-        network,
-        columns,
-        rows,
-        marks,
-        x.source,
-        x.destination,
-        &mut out[at..],
-    )
+    route_marked(network, marks, x.source, x.destination, &mut out[at..])
 }
