@@ -1,16 +1,7 @@
 // Boxes of maps, four numbers each. The list is 9 where no number is written.
 use boxing::box_blocks;
 use std::io;
-use test_prints::{faults, node, print_answer, print_place};
-
-fn print_map(rt: &impl Print, map: &[u8; 80]) -> io::Result<()> {
-    for p in 0..80u32 {
-        if map[p as usize] == 1 {
-            print_place(rt, node(p))?;
-        }
-    }
-    Ok(())
-}
+use test_prints::{Answer, At, Faults, node};
 
 // With so many numbers in the list.
 fn try_list(
@@ -20,14 +11,15 @@ fn try_list(
     map: &[u8; 80],
     room: usize,
 ) -> io::Result<()> {
-    let mut list = [9u32; 25];
-    let Some(part) = list.get_mut(..room) else {
-        return Ok(());
-    };
     print!(rt; "boxes")?;
-    print_map(rt, map)?;
-    print_answer(rt, box_blocks(columns, rows, map, part))?;
-    print!(rt; ",")?;
+    for i in 0..80u32 {
+        if map[i as usize] == 1 {
+            print!(rt; "{}", At(node(i)))?;
+        }
+    }
+    let mut list = [9u32; 25];
+    let answer = box_blocks(columns, rows, map, &mut list[..room.min(25)]);
+    print!(rt; "{},", Answer(answer.map_err(u32::from)))?;
     for x in &list {
         print!(rt; " {x}")?;
     }
@@ -36,11 +28,11 @@ fn try_list(
 
 // The map of two faults, and with two more.
 fn try_two(rt: &impl Print, p: u32, q: u32, room: usize) -> io::Result<()> {
-    try_list(rt, 10, 8, &faults(p, q), room)
+    try_list(rt, 10, 8, &Faults(p, q).map(), room)
 }
 
 fn try_four(rt: &impl Print, p: u32, q: u32, r: u32, s: u32, room: usize) -> io::Result<()> {
-    let mut map = faults(p, q);
+    let mut map = Faults(p, q).map();
     map[(r % 80) as usize] = 1;
     map[(s % 80) as usize] = 1;
     try_list(rt, 10, 8, &map, room)
@@ -60,7 +52,7 @@ fn try_refusals(rt: &impl Print) -> io::Result<()> {
     let map = [0u8; 80];
     try_list(rt, 10, 8, &map, 0)?;
     try_list(rt, 10, 8, &map, 25)?;
-    let a = faults(34, 45);
+    let a = Faults(34, 45).map();
     try_list(rt, 10, 8, &a, 7)?;
     try_list(rt, 65, 8, &a, 7)?;
     try_list(rt, 10, 0, &a, 7)?;

@@ -3,73 +3,35 @@ use mesh::Network;
 use numbers::place_of;
 use routing::route;
 use std::io;
-use test_prints::{faults, node, print_answer, print_request};
-
-fn print_out(rt: &impl Print, out: &[u8]) -> io::Result<()> {
-    print!(rt; " ")?;
-    rt.write_all(out)?;
-    println!(rt; "")
-}
+use test_prints::{Answer, Letters, Request};
 
 // A request on a map with these faults.
-fn try_on(
-    rt: &impl Print,
-    network: Network,
-    what: &str,
-    p: u32,
-    q: u32,
-    source: u32,
-    destination: u32,
-) -> io::Result<()> {
+fn try_on(rt: &impl Print, network: Network, what: &str, asked: Request) -> io::Result<()> {
     let mut out = [b'.'; 20];
-    let answer = route(
-        network,
-        10,
-        8,
-        &faults(p, q),
-        node(source),
-        node(destination),
-        &mut out,
-    );
-    print_request(rt, what, p, q, source, destination)?;
-    print_answer(rt, answer)?;
-    print_out(rt, &out)
+    let map = asked.faults.map();
+    let answer = route(network, 10, 8, &map, asked.source, asked.destination, &mut out);
+    let answer = Answer(answer.map_err(u32::from));
+    println!(rt; "{what}{asked}{answer} {}", Letters(&out))
 }
 
 fn try_route(rt: &impl Print, p: u32, q: u32, source: u32, destination: u32) -> io::Result<()> {
-    try_on(
-        rt,
-        Network::First,
-        "route round",
-        p,
-        q,
-        source,
-        destination,
-    )
+    let asked = Request::new(p, q, source, destination);
+    try_on(rt, Network::First, "route round", asked)
 }
 
 fn try_second(rt: &impl Print, p: u32, q: u32, source: u32, destination: u32) -> io::Result<()> {
-    try_on(
-        rt,
-        Network::Second,
-        "second network, route round",
-        p,
-        q,
-        source,
-        destination,
-    )
+    let asked = Request::new(p, q, source, destination);
+    try_on(rt, Network::Second, "second network, route round", asked)
 }
 
 // On one column of eight rows, on the second network.
 fn try_column(rt: &impl Print, row: u32, to_row: u32) -> io::Result<()> {
-    let map = [0u8; 8];
     let mut out = [b'.'; 8];
     let s = place_of(row, 0);
     let d = place_of(to_row, 0);
-    let answer = route(Network::Second, 1, 8, &map, s, d, &mut out);
-    print!(rt; "second network, one column, from row {row} to row {to_row}")?;
-    print_answer(rt, answer)?;
-    print_out(rt, &out)
+    let answer = route(Network::Second, 1, 8, &[0; 8], s, d, &mut out);
+    let answer = Answer(answer.map_err(u32::from));
+    println!(rt; "second network, one column, from row {row} to row {to_row}{answer} {}", Letters(&out))
 }
 
 // Round one block: its rows and the rows next to it.

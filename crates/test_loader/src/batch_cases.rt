@@ -2,7 +2,15 @@
 use batch::route_batch;
 use mesh::Network;
 use std::io;
-use test_prints::faults;
+use test_prints::{Answer, Faults, Letters};
+
+// An entry of a table: a number of hops, or 65,536 plus the number of a refusal.
+fn entry(x: u32) -> Answer {
+    Answer(match x.checked_sub(65536) {
+        Some(why) => Err(why),
+        None => Ok(x),
+    })
+}
 
 // On a map with this fault and (4,5).
 fn try_sends(
@@ -13,22 +21,15 @@ fn try_sends(
     answers: &mut [u32],
     out: &mut [u8],
 ) -> io::Result<()> {
-    let answer = route_batch(network, 10, 8, &faults(p, 45), sends, answers, out);
-    print!(rt; "table of sends: ")?;
-    match answer {
-        Ok(n) => print!(rt; "{n}")?,
-        Err(why) => print!(rt; "no {}", u32::from(why))?,
+    let map = Faults(p, 45).map();
+    match route_batch(network, 10, 8, &map, sends, answers, out) {
+        Ok(n) => print!(rt; "table of sends: {n}")?,
+        Err(why) => print!(rt; "table of sends: no {}", u32::from(why))?,
     }
-    for code in answers {
-        if *code < 65536 {
-            print!(rt; ": {code}")?;
-        } else {
-            print!(rt; ": no {}", *code - 65536)?;
-        }
+    for x in &*answers {
+        print!(rt; "{}", entry(*x))?;
     }
-    print!(rt; " ")?;
-    rt.write_all(out)?;
-    println!(rt; "")
+    println!(rt; " {}", Letters(out))
 }
 
 // Sends of 11 hops, of 13, to a block's side, of 2.

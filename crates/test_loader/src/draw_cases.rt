@@ -1,7 +1,7 @@
 // Maps drawn by number. The output is 9 where no byte is written; of its 81 bytes one lies beyond the map of 10 x 8.
 use drawing::draw;
 use std::io;
-use test_prints::{print_answer, print_bytes};
+use test_prints::{Answer, Bytes};
 
 // With so many bytes in the output.
 fn try_draw(
@@ -13,14 +13,10 @@ fn try_draw(
     room: usize,
 ) -> io::Result<()> {
     let mut out = [9u8; 81];
-    let Some(part) = out.get_mut(..room) else {
-        return Ok(());
-    };
-    print!(rt; "draw {columns} x {rows}, number {seed}, draws {draws}")?;
-    print_answer(rt, draw(columns, rows, seed, draws, part))?;
-    print!(rt; ",")?;
-    print_bytes(rt, &out)?;
-    println!(rt; "")
+    let answer = draw(columns, rows, seed, draws, &mut out[..room.min(81)]);
+    let answer = Answer(answer.map_err(u32::from));
+    print!(rt; "draw {columns} x {rows}, number {seed}, draws {draws}{answer}")?;
+    println!(rt; ",{}", Bytes(&out))
 }
 
 // The first three draws of a seed, and of the last one; places that come again, the only one too; no draws, with places and without.

@@ -1,46 +1,40 @@
 // Letters to legs, and legs to letters. The output of a file is 9 where no byte is written, that of letters has dots where no letter is.
 use std::io;
-use test_prints::print_bytes;
+use test_prints::{Bytes, Letters};
 use theory_legs::LegRefusal;
 use to_legs::letters_to_legs;
 use to_letters::legs_to_letters;
 
 fn print_converted(rt: &impl Print, answer: Result<usize, LegRefusal>) -> io::Result<()> {
     match answer {
-        Ok(n) => print!(rt; "{n}"),
-        Err(why) => print!(rt; "no {}", u32::from(why)),
+        Ok(n) => print!(rt; ": {n}"),
+        Err(why) => print!(rt; ": no {}", u32::from(why)),
     }
 }
 
-fn try_letters(rt: &impl Print, letters: &str) -> io::Result<()> {
+fn try_letters(rt: &impl Print, letters: &[u8]) -> io::Result<()> {
     let mut file = [9u8; 8];
-    let answer = letters_to_legs(letters.as_bytes(), &mut file);
-    print!(rt; "letters to legs, {letters}: ")?;
+    let answer = letters_to_legs(letters, &mut file);
+    print!(rt; "letters to legs, {}", Letters(letters))?;
     print_converted(rt, answer)?;
-    print!(rt; ",")?;
-    print_bytes(rt, &file)?;
-    println!(rt; "")
+    println!(rt; ",{}", Bytes(&file))
 }
 
 fn try_file(rt: &impl Print, file: &[u8]) -> io::Result<()> {
     let mut letters = [b'.'; 14];
     let answer = legs_to_letters(file, &mut letters);
-    print!(rt; "legs to letters,")?;
-    print_bytes(rt, file)?;
-    print!(rt; ": ")?;
+    print!(rt; "legs to letters,{}", Bytes(file))?;
     print_converted(rt, answer)?;
-    print!(rt; " ")?;
-    rt.write_all(&letters)?;
-    println!(rt; "")
+    println!(rt; " {}", Letters(&letters))
 }
 
 fn try_all_letters(rt: &impl Print) -> io::Result<()> {
-    try_letters(rt, "WNWWNNNNEEE")?;
-    try_letters(rt, "")?;
-    try_letters(rt, "EW")?;
-    try_letters(rt, "EEEEEEEEEEEEEEEEEEEEEEEEEEEEEEEEE")?;
-    try_letters(rt, "ENENENEN")?;
-    try_letters(rt, "ENENENENx")
+    try_letters(rt, b"WNWWNNNNEEE")?;
+    try_letters(rt, b"")?;
+    try_letters(rt, b"EW")?;
+    try_letters(rt, b"EEEEEEEEEEEEEEEEEEEEEEEEEEEEEEEEE")?;
+    try_letters(rt, b"ENENENEN")?;
+    try_letters(rt, b"ENENENENx")
 }
 
 pub fn try_legs(rt: &impl Print) -> io::Result<()> {

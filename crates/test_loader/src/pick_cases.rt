@@ -2,7 +2,7 @@
 // buffers.
 use picking::pick;
 use std::io;
-use test_prints::{faults, node, print_request};
+use test_prints::{Letters, Request};
 
 // On a map with these faults, with so many bytes in each buffer.
 fn try_pick(
@@ -14,30 +14,22 @@ fn try_pick(
     m: usize,
     n: usize,
 ) -> io::Result<()> {
+    let asked = Request::new(p, q, source, destination);
     let mut first = [b'.'; 20];
     let mut second = [b'.'; 20];
-    let (Some(one), Some(two)) = (first.get_mut(..m), second.get_mut(..n)) else {
-        return Ok(());
-    };
-    print_request(rt, "pick round", p, q, source, destination)?;
-    let mut refusal = 99;
-    let handed = pick(
+    let mut refusal = 99u32;
+    let part = pick(
         10,
         8,
-        &faults(p, q),
-        node(source),
-        node(destination),
-        one,
-        two,
+        &asked.faults.map(),
+        asked.source,
+        asked.destination,
+        &mut first[..m.min(20)],
+        &mut second[..n.min(20)],
         &mut refusal,
     );
-    print!(rt; ": ")?;
-    rt.write_all(handed)?;
-    print!(rt; " {refusal} ")?;
-    rt.write_all(&first)?;
-    print!(rt; " ")?;
-    rt.write_all(&second)?;
-    println!(rt; "")
+    print!(rt; "pick round{asked}: {}", Letters(part))?;
+    println!(rt; " {refusal} {} {}", Letters(&first), Letters(&second))
 }
 
 // The second is shorter, the first is, a tie; only one is served, by 9 or by 10; both refuse, for one reason or for two.

@@ -1,63 +1,109 @@
-// Maps with one fault or two, and the printing of requests, answers and bytes.
+// Maps of 10 columns and 8 rows with one fault or two, and how faults, requests, answers and bytes are printed.
 #![tactic(auto)]
 
 use mesh::Place;
 use numbers::place_of;
-use std::io;
+use std::fmt;
 
+// Node p: its row is the first digit of p, its column the last.
 pub fn node(p: u32) -> Place {
     place_of(p / 10, p % 10)
 }
 
-// A map with these faults.
-pub fn faults(p: u32, q: u32) -> [u8; 80] {
-    let mut map = [0u8; 80];
-    map[(p % 80) as usize] = 1;
-    map[(q % 80) as usize] = 1;
-    map
-}
+// A place, with a space before it.
+#[derive(Clone, Copy)]
+pub struct At(pub Place);
 
-pub fn print_place(rt: &impl Print, p: Place) -> io::Result<()> {
-    print!(rt; " ({},{})", p.row.0, p.column.0)
-}
-
-pub fn print_faults(rt: &impl Print, p: u32, q: u32) -> io::Result<()> {
-    print_place(rt, node(p))?;
-    if p != q {
-        print_place(rt, node(q))?;
+impl fmt::Display for At {
+    fn fmt<W: fmt::Write>(&self, f: &mut fmt::Formatter<W>) -> fmt::Result {
+        write!(f, " ({},{})", self.0.row.0, self.0.column.0)
     }
-    Ok(())
+}
+
+// The nodes of two faults, or twice that of one.
+#[derive(Clone, Copy)]
+pub struct Faults(pub u32, pub u32);
+
+impl Faults {
+    pub fn map(self) -> [u8; 80] {
+        let mut map = [0u8; 80];
+        map[(self.0 % 80) as usize] = 1;
+        map[(self.1 % 80) as usize] = 1;
+        map
+    }
+}
+
+impl fmt::Display for Faults {
+    fn fmt<W: fmt::Write>(&self, f: &mut fmt::Formatter<W>) -> fmt::Result {
+        write!(f, "{}", At(node(self.0)))?;
+        if self.0 != self.1 {
+            write!(f, "{}", At(node(self.1)))?;
+        }
+        Ok(())
+    }
 }
 
 // What is asked, on a map with these faults.
-pub fn print_request(
-    rt: &impl Print,
-    what: &str,
-    p: u32,
-    q: u32,
-    source: u32,
-    destination: u32,
-) -> io::Result<()> {
-    print!(rt; "{what}")?;
-    print_faults(rt, p, q)?;
-    print!(rt; ", from")?;
-    print_place(rt, node(source))?;
-    print!(rt; " to")?;
-    print_place(rt, node(destination))
+#[derive(Clone, Copy)]
+pub struct Request {
+    pub faults: Faults,
+    pub source: Place,
+    pub destination: Place,
 }
 
-// What is returned, or the number of a refusal.
-pub fn print_answer<E: Into<u32>>(rt: &impl Print, answer: Result<u32, E>) -> io::Result<()> {
-    match answer {
-        Ok(n) => print!(rt; ": {n}"),
-        Err(why) => print!(rt; ": no {}", why.into()),
+impl Request {
+    pub fn new(p: u32, q: u32, source: u32, destination: u32) -> Request {
+        Request {
+            faults: Faults(p, q),
+            source: node(source),
+            destination: node(destination),
+        }
+    }
+}
+
+impl fmt::Display for Request {
+    fn fmt<W: fmt::Write>(&self, f: &mut fmt::Formatter<W>) -> fmt::Result {
+        let source = At(self.source);
+        let destination = At(self.destination);
+        write!(f, "{}, from{source} to{destination}", self.faults)
+    }
+}
+
+// A number, or that of a refusal.
+#[derive(Clone, Copy)]
+pub struct Answer(pub Result<u32, u32>);
+
+impl fmt::Display for Answer {
+    fn fmt<W: fmt::Write>(&self, f: &mut fmt::Formatter<W>) -> fmt::Result {
+        match self.0 {
+            Ok(n) => write!(f, ": {n}"),
+            Err(why) => write!(f, ": no {why}"),
+        }
+    }
+}
+
+// Bytes as letters.
+#[derive(Clone, Copy)]
+pub struct Letters<'a>(pub &'a [u8]);
+
+impl<'a> fmt::Display for Letters<'a> {
+    fn fmt<W: fmt::Write>(&self, f: &mut fmt::Formatter<W>) -> fmt::Result {
+        for letter in self.0 {
+            f.write_char(char::from(*letter))?;
+        }
+        Ok(())
     }
 }
 
 // Bytes as numbers.
-pub fn print_bytes(rt: &impl Print, bytes: &[u8]) -> io::Result<()> {
-    for byte in bytes {
-        print!(rt; " {byte}")?;
+#[derive(Clone, Copy)]
+pub struct Bytes<'a>(pub &'a [u8]);
+
+impl<'a> fmt::Display for Bytes<'a> {
+    fn fmt<W: fmt::Write>(&self, f: &mut fmt::Formatter<W>) -> fmt::Result {
+        for byte in self.0 {
+            write!(f, " {byte}")?;
+        }
+        Ok(())
     }
-    Ok(())
 }
