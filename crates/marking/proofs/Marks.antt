@@ -1,7 +1,7 @@
 -- The marking of a map, and the cases of "Mark blocks". Assumes nothing.
 use Rattle.std.proofs.Common.{◌≡◌, refl, sym, ap, ◌∙◌, cond, List, [], ◌∷◌, ◌++◌, ℕ, ◌≤◌, ◌<◌, ltb, length, drop, Ok, Err}
 use borrow.Author.Tests.{lt-ltb, le-ltb}
-use Rattle.mesh.specs.declared.Marked.{Marked}
+use Rattle.std.specs.Prelude.{⊤}
 use Rattle.mesh.specs.declared.Refusal.{Refusal}
 use Rattle.mesh.specs.declared.Refusal.TheVariants.{Room}
 use Rattle.mesh.specs.Mesh.{Mesh, mesh}
@@ -18,6 +18,14 @@ use Rattle.theory_blocks.proofs.Rounds.{marked-length}
 use Rattle.theory_blocks.proofs.Theorems.{obstacles}
 use Rattle.blocks.specs.Marking.{Marking}
 use Rattle.rounds.specs.Rounds.{Settles}
+
+-- an operation that tests others besides: the map's refusals come first, and where there are none the others decide
+module _ (columns rows : ℕ) (map : List ℕ) (others : List Test) where
+  pub map-first : (why : Refusal) → number why ≡ first (map_tests columns rows map) → first (map_tests columns rows map ++ others) ≡ number why
+  map-first why told = told-refused (map_tests columns rows map) others {A = ⊤} {x = Err why} told refl
+
+  pub map-next : 0 ≡ first (map_tests columns rows map) → first (map_tests columns rows map ++ others) ≡ first others
+  map-next clear = clear_next (map_tests columns rows map) others (map-numbered columns rows map) (sym clear)
 
 -- a marking as a value: a mesh with the map of the settled one
 module _ {columns rows : ℕ} {map : List ℕ} {w : Mesh} (is-w : w ≡ mesh columns rows map) {new : List ℕ} (e : new ≡ (marked w).map) where
@@ -41,12 +49,12 @@ module _ (columns rows : ℕ) (map out : List ℕ) where
 
   pub map-refused : (why : Refusal) → number why ≡ first (map_tests columns rows map) → MarksBlocks columns rows map out (Err why) out
   unfolding mark_refusal
-  map-refused why told = refused why (told-refused (map_tests columns rows map) room {A = Marked} {x = Err why} told refl)
+  map-refused why told = refused why (map-first columns rows map room why told)
 
   module _ (clear : 0 ≡ first (map_tests columns rows map)) where
     only-room : mark_refusal columns rows map out ≡ cond (ltb (length out) (length map)) 10 0
     unfolding mark_refusal first
-    only-room = clear_next (map_tests columns rows map) room (map-numbered columns rows map) (sym clear)
+    only-room = map-next columns rows map room clear
 
     pub room-refused : length out < length map → MarksBlocks columns rows map out (Err Room) out
     room-refused h = refused Room (only-room ∙ ap (λ b. cond b 10 0) (lt-ltb _ _ h))
