@@ -1,6 +1,6 @@
 -- A newline ends the line that is held, or the one that stands there whole. Assumes nothing.
-use Rattle.std.proofs.Common.{Bool, sym, ◌∙◌, ◌≡◌, refl, List, [], ◌∷◌, ◌++◌, ℕ, ◌+◌, ◌≤◌, ◌<◌, ◌==◌, true, false, Option, None, Some, length, get_or, take, leb, arith, add-one, length-append, length-take-le, position}
-use Rattle.std.proofs.lemmas.Bool.{eq-eqb, ne_eqb, eqb-true, eqb-false, leb-false}
+use Rattle.std.proofs.Common.{sym, ◌∙◌, ◌≡◌, refl, List, [], ◌∷◌, ◌++◌, ℕ, ◌+◌, ◌≤◌, ◌<◌, ◌==◌, Option, None, Some, length, get_or, take, arith, add-one, length-append, length-take-le, position}
+use Rattle.std.proofs.lemmas.Bool.{eq-eqb, ne_eqb, eqb-true, eqb-false, le-leb, lt-leb}
 use Rattle.std.proofs.lemmas.List.{length-take, get_or-take}
 use Rattle.std.proofs.Math.Seq.{take-suc}
 use Rattle.std.proofs.lemmas.List.Quantifiers.{position-Some}
@@ -19,18 +19,17 @@ module _ (n x : ℕ) (held : List ℕ) where
   unfolding feed
   held-line e is_c = record { fed = λ t. rw (eq-eqb x 10 e, is_c); short = λ h. h }
 
-  module _ (other : x ≡ 10 → ⊥) {b : Bool} (is_b : b ≡ leb 20 (length held)) where
-    pub too_long : b ≡ true → ReadsByte n x held (Line None) held
+  module _ (other : x ≡ 10 → ⊥) {k : ℕ} (is-k : k ≡ length held) where
+    pub too_long : 20 ≤ k → ReadsByte n x held (Line None) held
     unfolding feed
-    too_long t = record { fed = λ t'. rw (ne_eqb x 10 other, ← is_b, t); short = λ h. h }
+    too_long h = record { fed = λ t. rw (ne_eqb x 10 other, ← is-k, le-leb 20 k h); short = λ h. h }
 
-    pub one_more : b ≡ false → {after : List ℕ} → after ≡ held ++ (x ∷ []) → ReadsByte n x held Part after
+    pub one_more : k < 20 → {after : List ℕ} → after ≡ held ++ (x ∷ []) → ReadsByte n x held Part after
     unfolding feed
-    one_more f e =
-        let less = leb-false 20 (length held) (rw (← is_b) f) in
+    one_more h e =
         record {
-          fed = λ t. rw (e, ne_eqb x 10 other, ← is_b, f);
-          short = λ h. rw (e, length-append held (x ∷ [])) (omega arith);
+          fed = λ t. rw (e, ne_eqb x 10 other, ← is-k, lt-leb 20 k h);
+          short = λ _. rw (e, length-append held (x ∷ [])) (omega arith);
         }
 
 -- the first newline stands at index i, with at most 20 bytes before it

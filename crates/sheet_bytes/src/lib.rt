@@ -1,7 +1,7 @@
 // A sheet being read: where it stands, and what its next bytes say.
 #![tactic(auto)]
 
-ghost use Rattle.std.specs.Prelude.{◌≡◌, List, ℕ, [], ◌∷◌, ◌++◌, ◌≤◌, ◌<◌, ◌==◌, length, take, leb, position};
+ghost use Rattle.std.specs.Prelude.{◌≡◌, List, ℕ, [], ◌∷◌, ◌++◌, ◌≤◌, ◌<◌, ◌==◌, length, take, position};
 ghost use Rattle.sheet_bytes.specs.Reading.{next_line, Begins};
 ghost use Rattle.sheet_bytes.specs.Next.{ReadsByte, ReadsNext};
 
@@ -43,16 +43,10 @@ impl Held {
         &self.bytes[..self.len]
     }
 
-    pub fn is_empty(&self) -> bool
-        ensures { result ≡ (length self.now == 0) }
+    pub fn len(&self) -> usize
+        ensures { result ≡ length self.now }
     {
-        self.len == 0
-    }
-
-    fn is_full(&self) -> bool
-        ensures { result ≡ leb 20 (length self.now) }
-    {
-        20 <= self.len
+        self.len
     }
 
     fn push(&mut self, x: u8)
@@ -129,7 +123,7 @@ fn read_byte(number: u32, byte: u8, held: &mut Held) -> Read
 {
     if byte == b'\n' {
         Read::Line(read_line(number, held.bytes()))
-    } else if held.is_full() {
+    } else if 20 <= held.len() {
         Read::Line(None)
     } else {
         held.push(byte);
@@ -142,7 +136,7 @@ pub fn read_next(number: u32, bytes: &[u8], held: &mut Held) -> Next
     requires { 1 ≤ length bytes.now }
     ensures { ReadsNext number bytes.now held.old result held.new }
 {
-    if held.is_empty() {
+    if held.len() == 0 {
         if let Some(end) = find_newline(bytes) {
             return Next {
                 read: Read::Line(read_line(number, &bytes[..end])),

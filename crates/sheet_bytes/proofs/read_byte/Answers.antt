@@ -7,8 +7,8 @@ use Rattle.sheet_bytes.proofs.read_byte.Goals as goal
 pub returns-then-byte-eq10 : goal.returns-then-byte-eq10
 returns-then-byte-eq10 c = held-line _ _ _ c.if-byte-eq10.true (c.read_line.ensures ∙ ap (command_at c.args.number) c.bytes.ensures)
 
-pub returns-then-is_full : goal.returns-then-is_full
-returns-then-is_full c = too_long _ _ _ c.if-byte-eq10.false c.is_full.ensures c.if-is_full.true
+pub returns-then-len-ge20 : goal.returns-then-len-ge20
+returns-then-len-ge20 c = too_long _ _ _ c.if-byte-eq10.false c.len.ensures c.if-len-ge20.true
 
-pub returns-else-is_full : goal.returns-else-is_full
-returns-else-is_full c = one_more _ _ _ c.if-byte-eq10.false c.is_full.ensures c.if-is_full.false c.push.ensures
+pub returns-else-len-ge20 : goal.returns-else-len-ge20
+returns-else-len-ge20 c = one_more _ _ _ c.if-byte-eq10.false c.len.ensures c.if-len-ge20.false c.push.ensures

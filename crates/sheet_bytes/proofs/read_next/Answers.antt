@@ -1,12 +1,11 @@
 -- A whole line where nothing is held, else a byte. Assumes nothing.
 use Rattle.std.proofs.Common.{sym, ◌∙◌}
-use Rattle.std.proofs.lemmas.Bool.{eqb-true}
 use Rattle.sheet_bytes.proofs.Lines.{found-whole, whole-line, one-byte}
 use Rattle.sheet_bytes.proofs.read_next.Goals as goal
 
 pub returns-in-Some : goal.returns-in-Some
 returns-in-Some c =
-    whole-line _ (eqb-true _ _ (sym c.is_empty.ensures ∙ c.if-is_empty.true)) (found-whole _ _ (sym c.find_newline.ensures ∙ c.in-Some.is))
+    whole-line _ (sym c.len.ensures ∙ c.if-len-eq0.true) (found-whole _ _ (sym c.find_newline.ensures ∙ c.in-Some.is))
     c.read_line.ensures
 
 pub returns : goal.returns
