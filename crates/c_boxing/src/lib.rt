@@ -7,22 +7,18 @@ ghost use Rattle.theory_boxes.specs.Boxing.{boxed_answer};
 ghost use Rattle.c_boxing.specs.Numbers.{BoxesInNumbers};
 
 use boxing::box_blocks;
-use numbers::refusal_code;
-use theory_boxes::Boxed;
+use mesh::Refusal;
+use numbers::answer_code;
 
 // The number of boxes, or 65,536 plus the refusal.
-pub fn boxed_code(answer: Boxed) -> u32
+pub fn boxed_code(answer: Result<u32, Refusal>) -> u32
     ensures { result ≡ answer_code (boxed_answer answer) }
 {
-    match answer {
-        Boxed::Boxes(n) => return n,
-        Boxed::Refused(why) => return refusal_code(why),
-    }
+    answer_code(answer)
 }
 
 pub fn pinduguil_box(columns: u32, rows: u32, map: &[u8], list: &mut [u32]) -> u32
     ensures { BoxesInNumbers columns rows map.now list.old result list.new }
 {
-    let answer = box_blocks(columns, rows, map, list);
-    boxed_code(answer)
+    boxed_code(box_blocks(columns, rows, map, list))
 }

@@ -7,23 +7,18 @@ ghost use Rattle.theory_draw.specs.Drawing.{drawn_answer};
 ghost use Rattle.c_drawing.specs.Numbers.{DrawsInNumbers};
 
 use drawing::draw;
-use numbers::refusal_code;
-use theory_draw::Drawn;
+use numbers::answer_code;
+use theory_draw::DrawRefusal;
 
 // The number of distinct faults, or 65,536 plus the refusal.
-pub fn drawn_code(answer: Drawn) -> u32
+pub fn drawn_code(answer: Result<u32, DrawRefusal>) -> u32
     ensures { result ≡ answer_code (drawn_answer answer) }
 {
-    match answer {
-        Drawn::Faults(n) => return n,
-        Drawn::Refused(why) => return refusal_code(why),
-        Drawn::BadDraws => return 65536 + 24,
-    }
+    answer_code(answer)
 }
 
 pub fn pinduguil_draw(columns: u32, rows: u32, seed: u32, draws: u32, out: &mut [u8]) -> u32
     ensures { DrawsInNumbers columns rows seed draws out.old result out.new }
 {
-    let answer = draw(columns, rows, seed, draws, out);
-    drawn_code(answer)
+    drawn_code(draw(columns, rows, seed, draws, out))
 }
