@@ -1,5 +1,5 @@
 -- The sends of a table, one after another: with those to come the buffers will be as the definition says. Assumes nothing.
-use Rattle.std.specs.Prelude.{Result}
+use Rattle.std.specs.Prelude.{Result, Ok, Err, MatchResult}
 use Rattle.mesh.specs.declared.Refusal.{Refusal}
 use mathlib.Core.Path.{◌≡◌, refl, sym, ap, ◌∙◌}
 use mathlib.Core.List.{List}
@@ -8,8 +8,9 @@ use native.Mathlib.Nat.{add-zero}
 use native.Mathlib.Omega.{arith}
 use lib.ListN.{length, drop, set, length-set, length-append}
 use lib.Seq.{drop-drop}
-use Rattle.mesh.specs.Numbers.{answer_code}
+use Rattle.mesh.specs.Numbers.{number, answer_code}
 use Rattle.mesh.specs.Routing.{routed_answer}
+use Rattle.numbers.specs.Coded.{Coded}
 use Rattle.theory_batch.specs.declared.Send.{Send}
 use Rattle.theory_batch.specs.Sends.{sends_of}
 use Rattle.theory_batch.specs.Batch.{Call, calls, answers_of, letters_of}
@@ -19,6 +20,11 @@ use Rattle.buffers.proofs.Over.{over-length, over-append, over-all, over-drop}
 use Rattle.sends.specs.Sends.{send_at, wrote, RoutesSend}
 use Rattle.batch.specs.Marked.{RoutesSends}
 use Rattle.batch.proofs.Sends.{sends-next, sends-end}
+
+-- a call's answer as one number
+pub coded : {e : ℕ} (r : Result ℕ Refusal) → MatchResult r (λ n. e ≡ n) (λ why. Coded (λ k. k ≡ number why) e) → e ≡ answer_code (routed_answer r)
+coded (Ok n) h = h
+coded (Err why) (k, is-k, is-e) = rw (is-e, is-k)
 
 -- the calls of the sends from index i on, with the output that is free from index at on
 abbrev pub onward : (Send → List ℕ → Call) → List ℕ → ℕ → ℕ → List ℕ → List Call
