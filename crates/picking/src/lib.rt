@@ -2,58 +2,43 @@
 #![tactic(auto)]
 
 ghost use Rattle.std.specs.Prelude.{◌≡◌};
-ghost use Rattle.mesh.specs.Mesh.{mesh};
 ghost use Rattle.mesh.specs.Routing.{routed_answer};
-ghost use Rattle.blocks.specs.Marking.{Marking};
 ghost use Rattle.theory_pick.specs.Picking.{pick_of, better, PicksRoute, HandsBack};
 ghost use Rattle.picking.specs.Marked.{PicksOn};
 
+use blocks::Marks;
 use marking::mark_map;
-use mesh::{Checked, Network, Place, Routed};
-use numbers::refusal_number;
+use mesh::{Network, Place, Refusal};
+use numbers::refusal_of;
 use routing::route_marked;
 use theory_pick::Picked;
 
 // The shorter route, the first on a tie or if only it was served; if both are refused, the first's refusal.
-fn better(first: Routed, second: Routed) -> Picked
+#[tactic(auto, unfolding(theory_pick::specs::Picking::better))]
+fn better(first: Result<u32, Refusal>, second: Result<u32, Refusal>) -> Result<Picked, Refusal>
     ensures { pick_of result ≡ better (routed_answer first) (routed_answer second) }
 {
-    match first {
-        Routed::Refused(why) => {
-            match second {
-                Routed::Refused(_) => return Picked::Refused(why),
-                Routed::Hops(n) => return Picked::Route(Network::Second, n),
-            }
-        }
-        Routed::Hops(m) => {
-            match second {
-                Routed::Refused(_) => return Picked::Route(Network::First, m),
-                Routed::Hops(n) => {
-                    if n < m {
-                        return Picked::Route(Network::Second, n);
-                    }
-                    return Picked::Route(Network::First, m);
-                }
-            }
-        }
-    }
+    let (network, hops) = match (first, second) {
+        (Err(why), Err(_)) => return Err(why),
+        (Err(_), Ok(n)) => (Network::Second, n),
+        (Ok(m), Ok(n)) if n < m => (Network::Second, n),
+        (Ok(m), _) => (Network::First, m),
+    };
+    Ok(Picked { network, hops })
 }
 
 // Routes on both networks, on a marking already made: each writes its letters into its own buffer, and the answer is the better of the two.
 fn pick_marked(
-    columns: u32,
-    rows: u32,
-    marks: &[u8],
+    marks: &Marks,
     s: Place,
     d: Place,
     first: &mut [u8],
     second: &mut [u8],
-) -> Picked
-    requires { Marking columns rows marks.now }
-    ensures { PicksOn (mesh columns rows marks.now) s d first.old second.old result first.new second.new }
+) -> Result<Picked, Refusal>
+    ensures { PicksOn marks.now s d first.old second.old result first.new second.new }
 {
-    let one = route_marked(Network::First, columns, rows, marks, s, d, first);
-    let two = route_marked(Network::Second, columns, rows, marks, s, d, second);
+    let one = route_marked(Network::First, marks, s, d, first);
+    let two = route_marked(Network::Second, marks, s, d, second);
     better(one, two)
 }
 
@@ -66,15 +51,12 @@ pub fn route_both(
     d: Place,
     first: &mut [u8],
     second: &mut [u8],
-) -> Picked
+) -> Result<Picked, Refusal>
     ensures { PicksRoute columns rows map.now s d first.old second.old result first.new second.new }
 {
-    let mut marks = [0u8; 4096];
-    let checked = mark_map(columns, rows, map, &mut marks);
-    if let Checked::Refused(why) = checked {
-        return Picked::Refused(why);
-    }
-    pick_marked(columns, rows, &marks[..map.len()], s, d, first, second)
+    let mut marks = [0; 4096];
+    let marks = mark_map(columns, rows, map, &mut marks)?;
+    pick_marked(&marks, s, d, first, second)
 }
 
 // Pick: the part of the buffer that holds the better route is handed back, and refusal becomes 0; if both networks refuse, the empty part
@@ -92,18 +74,15 @@ pub fn pick<'a>(
     ensures { HandsBack columns rows map.now s d first.old second.old result.now refusal.new }
 {
     let picked = route_both(columns, rows, map, s, d, first, second);
+    *refusal = refusal_of(picked);
     match picked {
-        Picked::Refused(why) => {
-            *refusal = refusal_number(why);
-            return &mut first[..0];
-        }
-        Picked::Route(network, n) => {
-            *refusal = 0;
-            let hops = n as usize;
-            match network {
-                Network::First => return &mut first[..hops],
-                Network::Second => return &mut second[..hops],
+        Ok(p) => {
+            let hops = p.hops as usize;
+            match p.network {
+                Network::First => &mut first[..hops],
+                Network::Second => &mut second[..hops],
             }
         }
+        Err(_) => &mut first[..0],
     }
 }

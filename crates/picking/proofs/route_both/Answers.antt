@@ -1,24 +1,12 @@
 -- The map's refusals are as they were told; else what is done is what is done on its marking. Assumes nothing.
-use mathlib.Core.Path.{sym}
-use native.Mathlib.Omega.{arith}
-use lib.Seq.{length-take-le}
-use Rattle.marking.proofs.Marks.{marks-few, marking}
+use Rattle.std.proofs.lemmas.Result.{err_from_is_err_and}
 use Rattle.picking.proofs.Picked.{both-refused, marked-picked}
 use Rattle.picking.proofs.route_both.Goals as goal
 
-pub returns-in-Refused : goal.returns-in-Refused
-returns-in-Refused c = both-refused _ _ _ _ _ _ _ c.mark_map-checked.ensures c.in-Refused.is
-
-pub slice_bounds-marks-end : goal.slice_bounds-marks-end
-slice_bounds-marks-end c = omega (arith, c.mark_map-checked.auto.marks, marks-few _ _ _ c.mark_map-checked.ensures c.in_default.is)
-
-pub slice_bounds-pick_marked-end : goal.slice_bounds-pick_marked-end
-slice_bounds-pick_marked-end c =
-    let few = marks-few _ _ _ c.mark_map-checked.ensures c.in_default.is in
-    sym (length-take-le _ _ (omega (arith, c.mark_map-checked.auto.marks, few)))
-
-pub pick_marked-requires : goal.pick_marked-requires
-pick_marked-requires c = marking _ _ _ c.mark_map-checked.ensures c.in_default.is
+pub returns-in_err-marks : goal.returns-in_err-marks
+returns-in_err-marks c =
+    let p = err_from_is_err_and c.from_residual.result c.from_residual.ensures.1 in
+    rw (p.1, p.2) (both-refused _ _ _ _ _ _ _ _ c.in_err-marks.ensures.refusals)
 
 pub returns : goal.returns
-returns c = marked-picked _ _ _ _ _ _ _ c.mark_map-checked.ensures c.in_default.is c.pick_marked.ensures
+returns c = marked-picked _ _ _ _ _ _ _ c.in_ok-marks.ensures.refusals c.in_ok-marks.ensures.marks c.pick_marked.ensures
