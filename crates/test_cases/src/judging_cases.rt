@@ -96,13 +96,23 @@ fn try_square(rt: &impl Print, network: Network, what: &str) -> io::Result<()> {
 
 pub fn try_ring(rt: &impl Print) -> io::Result<()> {
     try_square(rt, Network::First, "a ring, judge round")?;
-    try_square(rt, Network::Second, "a ring on the second network, judge round")
+    try_square(
+        rt,
+        Network::Second,
+        "a ring on the second network, judge round",
+    )
 }
 
 // On map A, on the second network.
 fn try_second(rt: &impl Print, source: u32, destination: u32, letters: &[u8]) -> io::Result<()> {
     let asked = Request::new(34, 45, source, destination);
-    try_on(rt, Network::Second, "second network, judge round", asked, letters)
+    try_on(
+        rt,
+        Network::Second,
+        "second network, judge round",
+        asked,
+        letters,
+    )
 }
 
 // The turns of rule 1, then those of rule 2, on the second network; and one that leaves the mesh where the turn is forbidden.

@@ -2,8 +2,7 @@
 use headings::letter;
 use mesh::{Heading, Network, Packet};
 use moving::moved_on;
-use std::fmt;
-use std::io;
+use std::{fmt, io};
 use test_prints::{At, Request};
 
 // The letter of a hop, or a word where there is none.

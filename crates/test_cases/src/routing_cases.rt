@@ -9,7 +9,15 @@ use test_prints::{Answer, Letters, Request};
 fn try_on(rt: &impl Print, network: Network, what: &str, asked: Request) -> io::Result<()> {
     let mut out = [b'.'; 20];
     let map = asked.faults.map();
-    let answer = route(network, 10, 8, &map, asked.source, asked.destination, &mut out);
+    let answer = route(
+        network,
+        10,
+        8,
+        &map,
+        asked.source,
+        asked.destination,
+        &mut out,
+    );
     let answer = Answer(answer.map_err(u32::from));
     println!(rt; "{what}{asked}{answer} {}", Letters(&out))
 }
@@ -31,7 +39,10 @@ fn try_column(rt: &impl Print, row: u32, to_row: u32) -> io::Result<()> {
     let d = place_of(to_row, 0);
     let answer = route(Network::Second, 1, 8, &[0; 8], s, d, &mut out);
     let answer = Answer(answer.map_err(u32::from));
-    println!(rt; "second network, one column, from row {row} to row {to_row}{answer} {}", Letters(&out))
+    println!(rt;
+        "second network, one column, from row {row} to row {to_row}{answer} {}",
+        Letters(&out)
+    )
 }
 
 // Round one block: its rows and the rows next to it.
