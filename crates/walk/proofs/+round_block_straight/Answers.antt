@@ -1,28 +1,13 @@
 -- The two modes: one walk, leg by leg. What falls is the hop limit less the hops made, counted twice and one more in straight travel, which
 -- may hand over at once. Assumes nothing.
 use Rattle.std.proofs.Common.{sym, ◌∙◌, arith}
-use Rattle.mesh.proofs.Bools.{or-none}
-use Rattle.rules.specs.Rows.{in_its_row, nears_row}
-use Rattle.walk.proofs.Following.{follows-there, along-none, round-one, along-few, along-lands, along-leg}
+use Rattle.walk.proofs.Following.{follows-there, round-one, along-few, along-lands, along-leg}
 use Rattle.walk.proofs.+round_block_straight.Goals as goal
-
-pub round_block-loop-out-init : goal.round_block-loop-out-init
-round_block-loop-out-init t c =
-    let asked = c.requires in
-    record { along = along-none (rw (← c.nodes.view_is) c.nodes.invariant) asked.0; off = asked.1 }
-
-pub round_block-go_round-h-requires : goal.round_block-go_round-h-requires
-round_block-go_round-h-requires t c = (c.loop-out.invariant.along.going.on-mesh.here, (or-none (in_its_row c.loop-out.p) (nears_row c.loop-out.p) c.loop-out.invariant.off).1)
 
 pub round_block-advance-p-requires : goal.round_block-advance-p-requires
 round_block-advance-p-requires t c =
     let one = round-one c.loop-out.invariant.off c.go_round-h.ensures in
     along-lands c.loop-out.invariant.along one
-
-pub round_block-overflow_add-made : goal.round_block-overflow_add-made
-round_block-overflow_add-made t c =
-    let one = round-one c.loop-out.invariant.off c.go_round-h.ensures in
-    omega (arith, along-few c.loop-out.invariant.along one)
 
 pub round_block-straight-requires : goal.round_block-straight-requires
 round_block-straight-requires t c =
@@ -31,22 +16,11 @@ round_block-straight-requires t c =
     let begun = c.decreases in
     (omega (arith, begun, along.grew, along-few along one), (along-leg along one (omega arith) c.advance-p.ensures).going)
 
-pub round_block-shape_of-out-then-is_straight : goal.round_block-shape_of-out-then-is_straight
-round_block-shape_of-out-then-is_straight t c =
-    let one = round-one c.loop-out.invariant.off c.go_round-h.ensures in
-    let leg = along-leg c.loop-out.invariant.along one (omega arith) c.advance-p.ensures in
-    c.straight.auto.out ∙ leg.size
-
 pub round_block-returns-then-is_straight : goal.round_block-returns-then-is_straight
 round_block-returns-then-is_straight t c =
     let one = round-one c.loop-out.invariant.off c.go_round-h.ensures in
     let leg = along-leg c.loop-out.invariant.along one (omega arith) c.advance-p.ensures in
     leg.onward c.straight.ensures
-
-pub round_block-loop-out-smaller : goal.round_block-loop-out-smaller
-round_block-loop-out-smaller t c =
-    let one = round-one c.loop-out.invariant.off c.go_round-h.ensures in
-    omega (arith, along-few c.loop-out.invariant.along one)
 
 pub round_block-loop-out-preserved : goal.round_block-loop-out-preserved
 round_block-loop-out-preserved t c =
@@ -55,22 +29,6 @@ round_block-loop-out-preserved t c =
       along = along-leg c.loop-out.invariant.along one (omega arith) c.advance-p.ensures;
       off = sym c.is_straight.ensures ∙ c.if-is_straight.false;
     }
-
-pub straight-loop-network-init : goal.straight-loop-network-init
-straight-loop-network-init t c = along-none (rw (← c.nodes.view_is) c.nodes.invariant) c.requires
-
-pub straight-round_block-requires : goal.straight-round_block-requires
-straight-round_block-requires t c = (
-  omega (arith, c.decreases, c.loop-network.invariant.grew),
-  (c.loop-network.invariant.going, sym c.is_straight.ensures ∙ c.if-not-is_straight.true),
-)
-
-pub straight-next_leg-leg-requires : goal.straight-next_leg-leg-requires
-straight-next_leg-leg-requires t c = (
-  c.loop-network.invariant.going.on-mesh,
-  sym c.is_straight.ensures ∙ c.if-not-is_straight.false,
-  sym c.is_there.ensures ∙ c.loop-network-test.true,
-)
 
 pub straight-advance-p-requires : goal.straight-advance-p-requires
 straight-advance-p-requires t c =
@@ -81,11 +39,6 @@ pub straight-overflow_add-made : goal.straight-overflow_add-made
 straight-overflow_add-made t c =
     let leg = c.next_leg-leg.ensures in
     omega (arith, along-few c.loop-network.invariant leg.1)
-
-pub straight-loop-network-smaller : goal.straight-loop-network-smaller
-straight-loop-network-smaller t c =
-    let leg = c.next_leg-leg.ensures in
-    omega (arith, leg.0, along-few c.loop-network.invariant leg.1)
 
 pub straight-loop-network-preserved : goal.straight-loop-network-preserved
 straight-loop-network-preserved t c =
