@@ -1,48 +1,51 @@
 -- The cases of "Judge a hand-in". Assumes nothing.
-use Rattle.std.specs.Prelude.{Result, Ok, Err, ⊤}
-use mathlib.Core.Path.{◌≡◌}
-use mathlib.Core.List.{List}
-use Prim.Native.Nat.{ℕ}
-use lib.ListN.{length, take}
+use Rattle.std.proofs.Common.{◌≡◌, refl, sym, List, ℕ, Err}
+use Rattle.std.specs.Prelude.{⊤}
 use Rattle.mesh.specs.declared.Refusal.{Refusal}
--- FIXME use Rattle.mesh.specs.declared.Judged.TheVariants.{Refused}
 use Rattle.mesh.specs.declared.Network.{Network}
 use Rattle.mesh.specs.declared.Place.{Place}
 use Rattle.mesh.specs.Mesh.{Mesh, mesh}
 use Rattle.mesh.specs.Tests.{first}
-use Rattle.mesh.specs.Numbers.{number, checked_number}
+use Rattle.mesh.specs.Numbers.{number}
 use Rattle.mesh.specs.Rounds.{marked}
+use Rattle.mesh.specs.Maps.{map_tests}
 use Rattle.mesh.specs.Rules.{trip_on}
 use Rattle.mesh.specs.Hops.{fresh}
 use Rattle.mesh.specs.Requests.{place_tests}
-use Rattle.mesh.specs.Judging.{Verdict, unless, judge, judged_verdict, judge_from, judgement}
+use Rattle.mesh.specs.Judging.{Verdict, failed, unless, judge, judge_from, judgement}
 use Rattle.mesh.proofs.Numbers.{number-some}
-use Rattle.mesh.proofs.Tests.{told-clear}
-use Rattle.marking.specs.Marks.{MarksMap}
-use Rattle.marking.proofs.Marks.{marks-refused, marks-next}
+use Rattle.mesh.proofs.Tests.{told-refused, clear_next}
+use Rattle.mesh.proofs.Maps.{map-numbered}
+use Rattle.mesh.proofs.Requests.{placed}
+use Rattle.nodes.specs.Sized.{OnMesh}
+use Rattle.nodes.proofs.Lookup.{on-mesh}
 use Rattle.judging.specs.Marked.{judgement_on}
 
-unless-refused : (why : Refusal) (rest : Verdict) → judged_verdict (Refused why) ≡ unless (number why) 0 rest
+unless-refused : (why : Refusal) (rest : Verdict) → failed (number why) 0 ≡ unless (number why) 0 rest
 unfolding unless
 unless-refused why rest = rw (number-some why)
 
-module _ (network : Network) (w : Mesh) (s d : Place) (xs : List ℕ) {x : Result ⊤ Refusal} (told : checked_number x ≡ first (place_tests w s d)) where
-  pub places-refused : {why : Refusal} → x ≡ Err why → judged_verdict (Refused why) ≡ judgement_on network w s d xs
+module _ (network : Network) (w : Mesh) (s d : Place) (xs : List ℕ) where
+  pub places-refused : (why : Refusal) → number why ≡ first (place_tests w s d) → failed (number why) 0 ≡ judgement_on network w s d xs
   unfolding judgement_on
-  places-refused {why} e = let t = rw e at told in rw (← t) (unless-refused why _)
+  places-refused why told = rw (← told) (unless-refused why _)
 
-  pub letters-judged : x ≡ Ok tt → judge (trip_on network w d) (fresh s) 0 xs ≡ judgement_on network w s d xs
+  pub source-on : 0 ≡ first (place_tests w s d) → OnMesh w s
+  source-on clear = on-mesh w s (placed w s d (sym clear)).source-on
+
+  pub letters-judged : 0 ≡ first (place_tests w s d) → judge (trip_on network w d) (fresh s) 0 xs ≡ judgement_on network w s d xs
   unfolding judgement_on judge_from unless
-  letters-judged e = rw (told-clear (place_tests w s d) e told)
+  letters-judged clear = rw (← clear)
 
-module _ (network : Network) (columns rows : ℕ) (map : List ℕ) (s d : Place) (xs : List ℕ) {x : Result ⊤ Refusal} {marks : List ℕ} (m : MarksMap columns rows map x marks) where
-  pub map-refused : {why : Refusal} → x ≡ Err why → judged_verdict (Refused why) ≡ judgement network columns rows map s d xs
+module _ (network : Network) (columns rows : ℕ) (map : List ℕ) (s d : Place) (xs : List ℕ) where
+  pub map-refused : (why : Refusal) → number why ≡ first (map_tests columns rows map) → failed (number why) 0 ≡ judgement network columns rows map s d xs
   unfolding judgement
-  map-refused {why} e =
-      let told = marks-refused columns rows map m (place_tests (marked (mesh columns rows map)) s d) e in
-      rw told (unless-refused why _)
+  map-refused why told =
+      rw (told-refused (map_tests columns rows map) (place_tests (marked (mesh columns rows map)) s d) {A = ⊤} {x = Err why} told refl)
+      (unless-refused why _)
 
-  pub marked-judged : x ≡ Ok tt → judgement_on network (mesh columns rows (take (length map) marks)) s d xs ≡ judgement network columns rows map s d xs
+  pub marked-judged : 0 ≡ first (map_tests columns rows map) → {w : Mesh} → w ≡ marked (mesh columns rows map) →
+      judgement_on network w s d xs ≡ judgement network columns rows map s d xs
   unfolding judgement judgement_on
-  marked-judged e =
-      rw (m.marks e, marks-next columns rows map m e (place_tests (marked (mesh columns rows map)) s d))
+  marked-judged clear e =
+      rw (e, clear_next (map_tests columns rows map) (place_tests (marked (mesh columns rows map)) s d) (map-numbered columns rows map) (sym clear))

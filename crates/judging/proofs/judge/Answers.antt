@@ -1,24 +1,13 @@
 -- The map's refusals are as they were told; else the verdict is that on its marking. Assumes nothing.
-use mathlib.Core.Path.{sym, ◌∙◌}
-use native.Mathlib.Omega.{arith}
-use lib.Seq.{length-take-le}
-use Rattle.marking.proofs.Marks.{marks-few, marking}
+use Rattle.std.proofs.Common.{◌∙◌}
+use Rattle.std.proofs.lemmas.Result.{err_from_is_err_and}
 use Rattle.judging.proofs.Verdicts.{map-refused, marked-judged}
 use Rattle.judging.proofs.judge.Goals as goal
 
-pub returns-in-Refused : goal.returns-in-Refused
-returns-in-Refused c = map-refused _ _ _ _ _ _ _ c.mark_map-checked.ensures c.in-Refused.is
-
-pub slice_bounds-marks-end : goal.slice_bounds-marks-end
-slice_bounds-marks-end c = omega (arith, c.mark_map-checked.auto.marks, marks-few _ _ _ c.mark_map-checked.ensures c.in_default.is)
-
-pub slice_bounds-judge_marked-end : goal.slice_bounds-judge_marked-end
-slice_bounds-judge_marked-end c =
-    let few = marks-few _ _ _ c.mark_map-checked.ensures c.in_default.is in
-    sym (length-take-le _ _ (omega (arith, c.mark_map-checked.auto.marks, few)))
-
-pub judge_marked-requires : goal.judge_marked-requires
-judge_marked-requires c = (marking _ _ _ c.mark_map-checked.ensures c.in_default.is).sized
+pub returns-in_err-marks : goal.returns-in_err-marks
+returns-in_err-marks c =
+    let p = err_from_is_err_and c.from_residual.result c.from_residual.ensures.1 in
+    rw (p.1, p.2) (map-refused _ _ _ _ _ _ _ _ c.in_err-marks.ensures.refusals)
 
 pub returns : goal.returns
-returns c = c.judge_marked.ensures ∙ marked-judged _ _ _ _ _ _ _ c.mark_map-checked.ensures c.in_default.is
+returns c = c.judge_marked.ensures ∙ marked-judged _ _ _ _ _ _ _ c.in_ok-marks.ensures.refusals (c.marks.view_is ∙ c.in_ok-marks.ensures.marks)

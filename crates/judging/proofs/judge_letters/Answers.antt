@@ -1,41 +1,29 @@
 -- The letters before index i are lawful, so the verdict is that on the rest. Assumes nothing.
-use mathlib.Core.Path.{sym, ◌∙◌}
-use native.Mathlib.Omega.{arith}
-use Rattle.judging.proofs.Letters.{judging-start, judging-other, judging-wrong, judging-on, judging-passed, judging-short}
+use Rattle.std.proofs.Common.{◌≡◌, refl, sym, ◌∙◌, Some, arith}
+use Rattle.std.proofs.lemmas.Grind.{common_steps}
+use Rattle.judging.proofs.Letters.{judging-other, judging-wrong, judging-on, judging-passed, judging-short}
 use Rattle.judging.proofs.judge_letters.Goals as goal
 
 pub loop-i-init : goal.loop-i-init
-loop-i-init c = judging-start _ _ _ _ c.requires
+loop-i-init c = record { on-mesh = c.requires; rest = refl }
 
-pub returns-in-Other : goal.returns-in-Other
-returns-in-Other c =
-    let judged = c.loop-i.invariant in
-    judging-other _ _ _ _ judged (omega arith) c.read_letter-named.ensures c.in-Other.is
+pub returns-in_err-h : goal.returns-in_err-h
+returns-in_err-h c = grind (arith, common_steps, judging-other _ _ _ _ c.loop-i.invariant (omega arith))
 
-pub test_hop-tested-requires : goal.test_hop-tested-requires
-test_hop-tested-requires c = c.loop-i.invariant.on-mesh
-
-pub returns-in-Wrong : goal.returns-in-Wrong
-returns-in-Wrong c =
-    let judged = c.loop-i.invariant in
-    judging-wrong _ _ _ _ judged (omega arith) c.read_letter-named.ensures c.in-Hop.is
-    c.test_hop-tested.ensures c.in-Wrong.is
-
-pub overflow_add-i : goal.overflow_add-i
-overflow_add-i c = omega arith
+pub returns-in_err-p : goal.returns-in_err-p
+returns-in_err-p c =
+    let named : c.read_letter.result ≡ Some c.in_ok-h.h = grind (arith, common_steps) in
+    let wrong = judging-wrong _ _ _ _ c.loop-i.invariant (omega arith) c.read_letter.ensures named c.test_hop.ensures in
+    grind (arith, common_steps, wrong)
 
 pub loop-i-preserved : goal.loop-i-preserved
 loop-i-preserved c =
-    let judged = c.loop-i.invariant in
-    judging-on _ _ _ _ judged (omega arith) c.read_letter-named.ensures c.in-Hop.is
-    c.test_hop-tested.ensures c.in-Lawful.is
+    judging-on _ _ _ _ c.loop-i.invariant (omega arith) c.read_letter.ensures (grind (arith, common_steps)) c.test_hop.ensures (grind (arith, common_steps))
 
 pub returns-then-is_there : goal.returns-then-is_there
 returns-then-is_there c =
-    judging-passed _ _ _ _ c.loop-i.invariant (omega arith)
-    (sym c.is_there.ensures ∙ c.if-is_there.true)
+    judging-passed _ _ _ _ c.loop-i.invariant (omega arith) (omega arith) (sym c.if-is_there.true ∙ c.is_there.ensures)
 
-pub returns : goal.returns
-returns c =
-    judging-short _ _ _ _ c.loop-i.invariant (omega arith)
-    (sym c.is_there.ensures ∙ c.if-is_there.false)
+pub returns-else-is_there : goal.returns-else-is_there
+returns-else-is_there c =
+    judging-short _ _ _ _ c.loop-i.invariant (omega arith) (omega arith) (sym c.if-is_there.false ∙ c.is_there.ensures)
