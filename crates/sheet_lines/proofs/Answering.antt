@@ -1,18 +1,13 @@
 -- A line is answered by what it changes, what that prints, and the answer to a send on the map as it then is. Assumes nothing.
-use mathlib.Core.Path.{◌≡◌, refl, sym, ap, ◌∙◌}
-use mathlib.Core.Bool.{Bool, true, false}
-use mathlib.Core.List.{List, [], append-nil}
-use Prim.Native.Nat.{ℕ, ◌+◌, ◌≤◌, ◌<◌}
-use native.Mathlib.Omega.{arith}
-use lib.ListN.{length}
+use Rattle.std.proofs.Common.{Option, None, Some, ◌≡◌, refl, sym, ap, ◌∙◌, Bool, true, false, List, [], append-nil, ℕ, ◌+◌, ◌≤◌, ◌<◌, arith, length}
 use Rattle.mesh.specs.declared.Place.{Place}
 use Rattle.mesh.specs.Mesh.{Mesh as MeshOf, mesh}
+use Rattle.mesh.specs.Numbers.{number}
 use Rattle.mesh.proofs.Bools.{true-false}
 use Rattle.buffers.specs.Over.{Puts}
 use Rattle.buffers.proofs.Over.{puts-append, over-length}
-use Rattle.blocks.specs.Marking.{Marking}
 use Rattle.sheet_words.specs.declared.Command.{Command}
-use Rattle.sheet_words.specs.declared.Command.TheVariants.{Mesh, Fault, Send, Malformed}
+use Rattle.sheet_words.specs.declared.Command.TheVariants.{Mesh, Fault, Send}
 use Rattle.sheet_prints.specs.Prints.{line_word, no_word, blocks_word}
 use Rattle.sheet_prints.proofs.Lines.{line-length}
 use Rattle.theory_sheet.specs.declared.Phase.TheVariants.{Sends}
@@ -22,25 +17,25 @@ use Rattle.sheet_state.specs.declared.Sheet.{Sheet}
 use Rattle.sheet_state.specs.declared.Says.{Says}
 use Rattle.sheet_state.specs.declared.Says.TheVariants.{BadLine, Refusal, Blocks, Nothing}
 use Rattle.sheet_state.specs.declared.Change.{Change}
-use Rattle.sheet_state.specs.Keeping.{map_of, state_of, says_line, says_ends, says_number, step_of, Changes}
+use Rattle.sheet_state.specs.Keeping.{map_of, state_of, MarkMap, says_line, says_ends, says_number, step_of, Changes}
 use Rattle.sheet_lines.specs.Answers.{send_room, answer_room, Answers}
 
 says-short : (n : ℕ) (x : Says) → n < 100000 → says_number x < 100000 → length (says_line n x) ≤ 13
 says-short n BadLine h k = omega (arith, line-length line_word n h)
-says-short n (Refusal j) h k = omega (arith, line-length no_word j k)
+says-short n (Refusal why) h k = omega (arith, line-length no_word (number why) k)
 says-short n (Blocks j) h k = omega (arith, line-length blocks_word j k)
 says-short n Nothing h k = omega arith
 
 -- only a send is answered
-no_answer : (w : MeshOf) (c : Command) → ((p q : Place) → c ≡ Send p q → ⊥) → answer_to w c ≡ []
+no_answer : (w : MeshOf) (c : Option Command) → ((p q : Place) → c ≡ Some (Send p q) → ⊥) → answer_to w c ≡ []
 unfolding answer_to
-no_answer w (Mesh columns rows) h = refl
-no_answer w (Fault p) h = refl
-no_answer w (Send s d) h = absurd (h s d refl)
-no_answer w Malformed h = refl
+no_answer w (Some (Mesh columns rows)) h = refl
+no_answer w (Some (Fault p)) h = refl
+no_answer w (Some (Send s d)) h = absurd (h s d refl)
+no_answer w None h = refl
 
 -- line n says c, which changes the sheet to x
-module _ (n : ℕ) (s : Sheet) (map : List ℕ) (c : Command) {x : Change} {map' : List ℕ} (changed : Changes (λ n. change n (state_of s map) c) x map') where
+module _ (n : ℕ) (s : Sheet) (map : List ℕ) (c : Option Command) {x : Change} {map' : List ℕ} (changed : Changes (λ n. change n (state_of s map) c) x map') where
   line-changes : command_step n (state_of s map) c ≡ answering c (step_of n x map')
   unfolding command_step
   line-changes = ap (answering c) (changed.steps n)
@@ -53,14 +48,14 @@ module _ (n : ℕ) (s : Sheet) (map : List ℕ) (c : Command) {x : Change} {map'
         (record { puts = told; ends = refl; next = refl; ready = λ f. true-false refl f })
 
     module _ (f : b ≡ false) where
-      pub not-a-send : ((p q : Place) → c ≡ Send p q → ⊥) → Answers (command_step n (state_of s map) c) out at (record { sheet = x.sheet; at = y; ends = false }) map' after
+      pub not-a-send : ((p q : Place) → c ≡ Some (Send p q) → ⊥) → Answers (command_step n (state_of s map) c) out at (record { sheet = x.sheet; at = y; ends = false }) map' after
       unfolding answering
       not-a-send h =
           rw (line-changes, sym is_b ∙ f, no_answer _ c h, append-nil)
           (record { puts = told; ends = refl; next = refl; ready = λ g. changed.ready (sym is_b ∙ f) })
 
       -- the map is marked, and there is room for the answer
-      module _ (p q : Place) (e : c ≡ Send p q) where
+      module _ (p q : Place) (e : c ≡ Some (Send p q)) where
         sends-begun : x.sheet.phase ≡ Sends
         unfolding change
         sends-begun =
@@ -68,7 +63,7 @@ module _ (n : ℕ) (s : Sheet) (map : List ℕ) (c : Command) {x : Change} {map'
             ap (λ z. z.next.phase) (sym opened) ∙ opened-sends n (state_of s map) (ap (λ z. z.ends) opened ∙ sym is_b ∙ f)
 
         pub can-answer : n < 100000 → at + answer_room ≤ length out →
-            Marking x.sheet.columns x.sheet.rows (map_of x.sheet map') × (4096 ≤ length map') × (y + send_room ≤ length after)
+            MarkMap x.sheet.columns x.sheet.rows (map_of x.sheet map') × (4096 ≤ length map') × (y + send_room ≤ length after)
         can-answer h fits =
             let ready = changed.ready (sym is_b ∙ f) in
             let size = ap length told.stands ∙ over-length out at (says_line n x.says) in

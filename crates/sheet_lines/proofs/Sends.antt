@@ -1,14 +1,8 @@
 -- There is room for every route, so a send's answer is one of refusals 6 to 9, or its letters. Assumes nothing.
 use Rattle.std.specs.Prelude.{Result, Ok, Err}
-use mathlib.Core.Path.{◌≡◌, refl, sym, ap, ◌∙◌}
-use mathlib.Core.Bool.{cond}
-use mathlib.Core.List.{List, [], ◌∷◌, ◌++◌}
-use Prim.Native.Nat.{ℕ, zero, suc, ◌+◌, ◌≤◌, ◌<◌}
-use native.Mathlib.Omega.{arith}
-use borrow.Author.Tests.{le-ltb}
-use lib.Dec.{ltb}
-use lib.ListN.{length, take, drop, length-append}
-use lib.Seq.{take_at, length-take-le}
+use Rattle.std.proofs.Common.{◌≡◌, refl, sym, ap, ◌∙◌, cond, List, [], ◌∷◌, ◌++◌, ℕ, zero, suc, ◌+◌, ◌≤◌, ◌<◌, arith, ltb, length, take, drop, length-append}
+use Rattle.std.proofs.lemmas.Bool.{le-ltb}
+use Rattle.std.proofs.lemmas.List.{take_at, length-take-le}
 use Rattle.mesh.specs.declared.Place.{Place}
 use Rattle.mesh.specs.declared.Refusal.{Refusal}
 use Rattle.mesh.specs.declared.Network.TheVariants.{First}
@@ -25,7 +19,7 @@ use Rattle.mesh.proofs.Requests.{request, request-numbered}
 use Rattle.theory_walk.specs.Claims.{most_hops}
 use Rattle.theory_walk.proofs.Theorems.{request-arrives, request-bound}
 use Rattle.buffers.specs.Over.{Puts}
-use Rattle.blocks.specs.Marking.{Marking}
+use Rattle.sheet_state.specs.Keeping.{MarkMap}
 use Rattle.routing.specs.Marked.{RoutesOn}
 use Rattle.sheet_prints.specs.Prints.{line, no_word, ok_line}
 use Rattle.theory_sheet.specs.Sheet.{answer_of, send_answer}
@@ -41,12 +35,12 @@ unfolding answer answer_of
 answer-number zero j m xs e = cc
 answer-number (suc k) j m xs e = let q : k ≡ j = cc in rw q
 
-module _ (w : Mesh) (s d : Place) (m : Marking w.columns w.rows w.map) where
+module _ (w : Mesh) (s d : Place) (m : MarkMap w.columns w.rows w.map) where
   hops-few : first (request_tests First w s d) ≡ 0 → length (hops_of First w s d) ≤ most_hops
   hops-few clear =
       let q = request w s d clear in
-      let bounded = request-bound First w s d m.sized.few-columns m.sized.few-rows m.obstacles q in
-      omega (arith, (request-arrives First w s d m.obstacles q).hops)
+      let bounded = request-bound First w s d m.sized.few-columns m.sized.few-rows m.marking.obstacles q in
+      omega (arith, (request-arrives First w s d m.marking.obstacles q).hops)
 
   module _ (before : List ℕ) (room : most_hops ≤ length before) where
     no-tenth : first (request_tests First w s d) ≡ 0 → first (ltb (length before) (length (hops_of First w s d)) gives 10 ∷ []) ≡ 0

@@ -5,16 +5,15 @@ ghost use Rattle.std.specs.Prelude.{◌≡◌, ◌+◌, ◌≤◌, ◌<◌, leng
 ghost use Rattle.mesh.specs.Mesh.{mesh};
 ghost use Rattle.theory_walk.specs.Claims.{most_hops};
 ghost use Rattle.buffers.specs.Over.{Puts};
-ghost use Rattle.blocks.specs.Marking.{Marking};
 ghost use Rattle.theory_sheet.specs.Sheet.{send_answer, command_step, at_end};
-ghost use Rattle.sheet_state.specs.Keeping.{map_of, state_of, Ready, says_line, says_ends, says_number};
+ghost use Rattle.sheet_state.specs.Keeping.{map_of, state_of, MarkMap, Ready, says_line, says_ends, says_number};
 ghost use Rattle.sheet_lines.specs.Answers.{send_room, answer_room, Answers};
 
-use mesh::{Network, Place, Routed};
-use numbers::refusal_number;
+use blocks::Marks;
+use mesh::{Network, Place};
 use routing::route_marked;
 use sheet_prints::{put_bad_line, put_blocks, put_no, put_ok};
-use sheet_state::{Says, Sheet, open_sends, take_line};
+use sheet_state::{Says, Sheet};
 use sheet_words::Command;
 use walk::MOST_HOPS;
 
@@ -35,10 +34,10 @@ fn tell(says: Says, number: u32, out: &mut [u8], at: usize) -> usize
     ensures { Puts out.old at (says_line number says) result out.new }
 {
     match says {
-        Says::BadLine => return put_bad_line(out, at, number),
-        Says::Refusal(n) => return put_no(out, at, n),
-        Says::Blocks(n) => return put_blocks(out, at, n),
-        Says::Nothing => return at,
+        Says::BadLine => put_bad_line(out, at, number),
+        Says::Refusal(why) => put_no(out, at, u32::from(why)),
+        Says::Blocks(n) => put_blocks(out, at, n),
+        Says::Nothing => at,
     }
 }
 
@@ -46,12 +45,7 @@ fn tell(says: Says, number: u32, out: &mut [u8], at: usize) -> usize
 fn ends_run(says: Says) -> bool
     ensures { result ≡ says_ends says }
 {
-    match says {
-        Says::BadLine => return true,
-        Says::Refusal(_) => return true,
-        Says::Blocks(_) => return false,
-        Says::Nothing => return false,
-    }
+    matches!(says, Says::BadLine | Says::Refusal(_))
 }
 
 // ok HOPS LETTERS, or no NUMBER. There is room for every route.
@@ -64,22 +58,15 @@ fn answer_send(
     out: &mut [u8],
     at: usize,
 ) -> usize
-    requires { Marking sheet.columns sheet.rows (map_of sheet map.now) × (4096 ≤ length map.now) × (most_hops ≤ length letters.old) × (at + send_room ≤ length out.old) }
+    requires { MarkMap sheet.columns sheet.rows (map_of sheet map.now) × (4096 ≤ length map.now) × (most_hops ≤ length letters.old) × (at + send_room ≤ length out.old) }
     ensures { Puts out.old at (send_answer (mesh sheet.columns sheet.rows (map_of sheet map.now)) s d) result out.new }
 {
-    let n = (sheet.columns * sheet.rows) as usize;
-    let routed = route_marked(
-        Network::First,
-        sheet.columns,
-        sheet.rows,
-        &map[..n],
-        s,
-        d,
-        letters,
-    );
-    match routed {
-        Routed::Hops(n) => return put_ok(out, at, &letters[..n as usize]),
-        Routed::Refused(why) => return put_no(out, at, refusal_number(why)),
+    let marks = Marks {
+        nodes: sheet.nodes(map),
+    };
+    match route_marked(Network::First, &marks, s, d, letters) {
+        Ok(n) => put_ok(out, at, &letters[..n as usize]),
+        Err(why) => put_no(out, at, u32::from(why)),
     }
 }
 
@@ -87,7 +74,7 @@ fn answer_send(
 pub fn answer_line(
     sheet: Sheet,
     number: u32,
-    command: Command,
+    command: Option<Command>,
     map: &mut [u8],
     letters: &mut [u8],
     out: &mut [u8],
@@ -96,28 +83,26 @@ pub fn answer_line(
     requires { Ready sheet map.old × (number < 100000) × (most_hops ≤ length letters.old) × (at + answer_room ≤ length out.old) }
     ensures { Answers (command_step number (state_of sheet map.old) command) out.old at result map.new out.new }
 {
-    let change = take_line(sheet, command, map);
-    let after = change.sheet;
-    let says = change.says;
-    let told = tell(says, number, out, at);
-    if ends_run(says) {
+    let change = sheet.take_line(command, map);
+    let sheet = change.sheet;
+    let at = tell(change.says, number, out, at);
+    if ends_run(change.says) {
         return Answered {
-            sheet: after,
-            at: told,
+            sheet,
+            at,
             ends: true,
         };
     }
-    if let Command::Send(s, d) = command {
-        let end = answer_send(after, s, d, map, letters, out, told);
+    let Some(Command::Send(s, d)) = command else {
         return Answered {
-            sheet: after,
-            at: end,
+            sheet,
+            at,
             ends: false,
         };
-    }
+    };
     Answered {
-        sheet: after,
-        at: told,
+        sheet,
+        at: answer_send(sheet, s, d, map, letters, out, at),
         ends: false,
     }
 }
@@ -127,7 +112,6 @@ pub fn end_sheet(sheet: Sheet, number: u32, map: &mut [u8], out: &mut [u8], at: 
     requires { Ready sheet map.old × (number < 100000) × (at + 13 ≤ length out.old) }
     ensures { Puts out.old at (at_end number (state_of sheet map.old)) result out.new }
 {
-    let change = open_sends(sheet, map);
-    let says = change.says;
-    tell(says, number, out, at)
+    let change = sheet.open_sends(map);
+    tell(change.says, number, out, at)
 }
