@@ -1,10 +1,6 @@
 -- A list from an index on, as a part of it is lent. Assumes nothing.
-use mathlib.Core.Path.{◌≡◌}
-use mathlib.Core.List.{List, ◌++◌}
-use Prim.Native.Nat.{ℕ, ◌+◌, ◌-◌, ◌≤◌}
-use native.Mathlib.Omega.{arith}
-use lib.ListN.{length, take, drop, length-drop}
-use lib.Seq.{length-take-le, take-take, take-add}
+use Rattle.std.proofs.Common.{take-add, ◌≡◌, List, ◌++◌, ℕ, ◌+◌, ◌-◌, ◌≤◌, arith, length, take, drop, length-drop}
+use Rattle.std.proofs.lemmas.List.{length-take-le, take-take}
 
 abbrev pub from : ℕ → List ℕ → List ℕ
 from i bytes = take (length bytes - i) (drop i bytes)
