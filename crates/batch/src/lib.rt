@@ -8,7 +8,7 @@ ghost use Rattle.sends.specs.Sends.{route_call_on};
 ghost use Rattle.batch.specs.Marked.{RoutesSends};
 
 use blocks::Marks;
-use marking::mark_map;
+use marking::mark_in;
 use mesh::Network;
 use numbers::answer_code;
 use sends::{is_uneven, route_send, send_at, wrote};
@@ -47,7 +47,7 @@ pub fn route_batch(
     ensures { RoutesBatch network columns rows map.now sends.now answers.old out.old result answers.new out.new }
 {
     let mut marks = [0; 4096];
-    let marks = mark_map(columns, rows, map, &mut marks)?;
+    let marks = mark_in(columns, rows, map, &mut marks)?;
     if is_uneven(sends) || answers.len() < sends.len() / 4 {
         return Err(BatchRefusal::NotSends);
     }

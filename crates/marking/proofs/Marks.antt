@@ -1,5 +1,5 @@
 -- The marking of a map, and the cases of "Mark blocks". Assumes nothing.
-use Rattle.std.proofs.Common.{◌≡◌, refl, sym, ap, ◌∙◌, cond, List, [], ◌∷◌, ◌++◌, ℕ, ◌≤◌, ◌<◌, ltb, length, drop, Ok, Err}
+use Rattle.std.proofs.Common.{◌≡◌, refl, sym, ap, ◌∙◌, cond, List, [], ◌∷◌, ◌++◌, ℕ, ◌≤◌, ◌<◌, ltb, length, take, drop, Result, Ok, Err}
 use borrow.Author.Tests.{lt-ltb, le-ltb}
 use Rattle.std.specs.Prelude.{⊤}
 use Rattle.mesh.specs.declared.Refusal.{Refusal}
@@ -12,12 +12,15 @@ use Rattle.mesh.specs.Blocks.{blocks}
 use Rattle.mesh.specs.Maps.{map_tests}
 use Rattle.mesh.specs.Marking.{mark_refusal, MarksBlocks}
 use Rattle.mesh.proofs.Numbers.{answer-refused, written-refused}
-use Rattle.mesh.proofs.Tests.{told-refused, clear_next}
+use Rattle.mesh.proofs.Tests.{told-refused, told-clear, clear_next}
 use Rattle.mesh.proofs.Maps.{map-numbered, accepted}
 use Rattle.theory_blocks.proofs.Rounds.{marked-length}
 use Rattle.theory_blocks.proofs.Theorems.{obstacles}
 use Rattle.blocks.specs.Marking.{Marking}
 use Rattle.rounds.specs.Rounds.{Settles}
+use Rattle.nodes.specs.Sized.{Sized}
+use Rattle.maps.proofs.Checks.{clear-sized, clear-few}
+use Rattle.marking.specs.Marks.{MarksMap}
 
 -- an operation that tests others besides: the map's refusals come first, and where there are none the others decide
 module _ (columns rows : ℕ) (map : List ℕ) (others : List Test) where
@@ -34,6 +37,19 @@ module _ {columns rows : ℕ} {map : List ℕ} {w : Mesh} (is-w : w ≡ mesh col
 
   pub marking : 0 ≡ first (map_tests columns rows map) → Marking (mesh columns rows new)
   marking clear = rw marks-map (record { obstacles = obstacles (accepted (sym clear)) })
+
+-- what stands in the first places of a lent buffer, where the map is not refused
+module _ (columns rows : ℕ) (map : List ℕ) {x : Result ⊤ Refusal} {after : List ℕ} (m : MarksMap columns rows map x after) (e : x ≡ Ok tt) where
+  pub marks-clear : 0 ≡ first (map_tests columns rows map)
+  marks-clear = sym (told-clear (map_tests columns rows map) e m.checks)
+
+  pub marks-few : length map ≤ 4096
+  marks-few = clear-few columns rows map (sym marks-clear)
+
+  pub marks-sized : Sized columns rows (take (length map) after)
+  marks-sized =
+      let s = clear-sized columns rows map (sym marks-clear) in
+      rw (m.marks e) (record { few-columns = s.few-columns; few-rows = s.few-rows; size = marked-length (mesh columns rows map) ∙ s.size })
 
 module _ (columns rows : ℕ) (map out : List ℕ) where
   abbrev room : List Test

@@ -8,6 +8,7 @@ ghost use Rattle.mesh.specs.Numbers.{checked_number};
 ghost use Rattle.mesh.specs.Rounds.{marked};
 ghost use Rattle.mesh.specs.Maps.{map_tests};
 ghost use Rattle.mesh.specs.Marking.{MarksBlocks};
+ghost use Rattle.marking.specs.Marks.{MarksMap};
 
 use blocks::{Marks, count_blocks};
 use maps::check_map;
@@ -15,8 +16,18 @@ use mesh::{Marked, Refusal};
 use nodes::Nodes;
 use rounds::mark;
 
-// Refusals 1 to 5; where none applies, the marking, which stands in the first places of marks.
-pub fn mark_map<'a>(
+// Refusals 1 to 5; if none applies, the marking stands in the first places of marks.
+pub fn mark_map(columns: u32, rows: u32, map: &[u8], marks: &mut [u8]) -> Result<(), Refusal>
+    requires { 4096 ≤ length marks.old }
+    ensures { MarksMap columns rows map.now result marks.new }
+{
+    let faults = check_map(columns, rows, map)?;
+    mark(&faults, &mut marks[..map.len()]);
+    Ok(())
+}
+
+// The same, and the marking as a value, which borrows marks.
+pub fn mark_in<'a>(
     columns: u32,
     rows: u32,
     map: &[u8],
@@ -26,14 +37,12 @@ pub fn mark_map<'a>(
     ensures refusals { checked_number result ≡ first (map_tests columns rows map.now) }
     ensures marks { IfOk result (λ m. m ≡ marked (mesh columns rows map.now)) }
 {
-    let faults = check_map(columns, rows, map)?;
-    let marks = &mut marks[..map.len()];
-    mark(&faults, marks);
+    mark_map(columns, rows, map, marks)?;
     Ok(Marks {
         nodes: Nodes {
             columns,
             rows,
-            map: marks,
+            map: &marks[..map.len()],
         },
     })
 }

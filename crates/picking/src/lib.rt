@@ -7,7 +7,7 @@ ghost use Rattle.theory_pick.specs.Picking.{pick_of, better, PicksRoute, HandsBa
 ghost use Rattle.picking.specs.Marked.{PicksOn};
 
 use blocks::Marks;
-use marking::mark_map;
+use marking::mark_in;
 use mesh::{Network, Place, Refusal};
 use numbers::refusal_of;
 use routing::route_marked;
@@ -55,7 +55,7 @@ pub fn route_both(
     ensures { PicksRoute columns rows map.now s d first.old second.old result first.new second.new }
 {
     let mut marks = [0; 4096];
-    let marks = mark_map(columns, rows, map, &mut marks)?;
+    let marks = mark_in(columns, rows, map, &mut marks)?;
     pick_marked(&marks, s, d, first, second)
 }
 

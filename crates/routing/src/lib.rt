@@ -5,7 +5,7 @@ ghost use Rattle.mesh.specs.Routing.{Routes};
 ghost use Rattle.routing.specs.Marked.{RoutesOn};
 
 use blocks::Marks;
-use marking::mark_map;
+use marking::mark_in;
 use mesh::{Network, Packet, Place, Refusal};
 use requests::check_request;
 use walk::{has_room, straight};
@@ -47,6 +47,6 @@ pub fn route(
     ensures { Routes network columns rows map.now s d out.old result out.new }
 {
     let mut marks = [0; 4096];
-    let marks = mark_map(columns, rows, map, &mut marks)?;
+    let marks = mark_in(columns, rows, map, &mut marks)?;
     route_marked(network, &marks, s, d, out)
 }

@@ -8,7 +8,7 @@ ghost use Rattle.steps.specs.Marked.{Moves, answer_of, record_of};
 
 use blocks::Marks;
 use hops::{is_there, test_hop};
-use marking::mark_map;
+use marking::mark_in;
 use mesh::{Network, Packet, Refusal, Stepped};
 use requests::check_trip;
 use rules::hop;
@@ -39,7 +39,7 @@ fn hop_mapped(
     ensures { MovesOn network columns rows map.now p (answer_of result) (record_of p result) }
 {
     let mut marks = [0u8; 4096];
-    let marks = mark_map(columns, rows, map, &mut marks)?;
+    let marks = mark_in(columns, rows, map, &mut marks)?;
     hop_marked(network, &marks, p)
 }
 
