@@ -1,11 +1,9 @@
 -- One byte written again and again. Assumes nothing.
-use Rattle.std.proofs.Common.{◌≡◌, ℕ, ◌+◌, ◌-◌, ◌≤◌, List, [], ◌∷◌, length, take, drop, min, refl, sym, ◌∙◌, arith, length-drop}
+use Rattle.std.proofs.Common.{◌≡◌, ℕ, ◌+◌, ◌-◌, ◌≤◌, List, [], ◌∷◌, length, min, refl, sym, ◌∙◌, arith}
 use Prim.Native.Nat.{zero, suc}
 use mathlib.Core.List.{append-nil}
-use lib.ListN.{set, replicate, length-set, length-take, length-replicate, replicate-append-replicate, drop_of_length-le}
-use borrow.Rule.Slice.PartMut.{put_mid}
+use lib.ListN.{set, replicate, length-set, length-replicate, replicate-append-replicate, drop_of_length-le}
 use Rattle.buffers.specs.Over.{over}
-use Rattle.buffers.proofs.Copy.{part-over}
 use Rattle.buffers.proofs.Over.{set_beyond, over-length, over-append, over-all}
 
 -- what is written beyond the buffer's end changes nothing
@@ -27,12 +25,19 @@ over-cut xs i n k byte e h =
         rw (← q, ← replicate-append-replicate k (suc m) byte, over-append xs i (replicate k byte) (replicate (suc m) byte), length-replicate k byte)
         (over-beyond (over xs i (replicate k byte)) (i + k) (replicate (suc m) byte) (rw (over-length xs i (replicate k byte)) (omega arith)))
 
--- a part that is filled
-pub part-filled : (xs : List ℕ) (i n k byte : ℕ) {ys : List ℕ} → ys ≡ replicate (length (take k (drop i xs))) byte → k ≡ min n (length xs - i) →
-    i ≤ length xs → put_mid i k xs ys ≡ over xs i (replicate n byte)
-part-filled xs i n k byte q e h =
-    let size : length (take k (drop i xs)) ≡ k = rw (length-take k (drop i xs), length-drop i xs) (omega arith) in
-    rw (q, size) (part-over xs i k (replicate k byte) (sym (length-replicate k byte)) (omega arith) ∙ over-cut xs i n k byte e h)
+-- the bytes before index i are written
+pub filling_none : (xs : List ℕ) (at byte : ℕ) → xs ≡ over xs at (replicate (at - at) byte)
+unfolding over
+filling_none xs at byte = let none : at - at ≡ 0 = omega arith in rw none
+
+pub filling-more : (xs : List ℕ) {now : List ℕ} (at byte i : ℕ) → at ≤ i → now ≡ over xs at (replicate (i - at) byte) →
+    set now i byte ≡ over xs at (replicate (i + 1 - at) byte)
+unfolding over
+filling-more xs at byte i h e =
+    let next : i + 1 - at ≡ (i - at) + 1 = omega arith in
+    let here : at + (i - at) ≡ i = omega arith in
+    rw (e, next, ← replicate-append-replicate (i - at) 1 byte)
+    (sym (over-append xs at (replicate (i - at) byte) (replicate 1 byte) ∙ rw (length-replicate (i - at) byte, here)))
 
 -- the whole buffer
 pub over-same : (xs : List ℕ) (byte : ℕ) → over xs 0 (replicate (length xs) byte) ≡ replicate (length xs) byte

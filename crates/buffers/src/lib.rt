@@ -10,7 +10,10 @@ pub fn fill(out: &mut [u8], at: usize, n: usize, byte: u8)
 {
     if at < out.len() {
         let end = at + n.min(out.len() - at);
-        out[at..end].fill(byte);
+        // By a loop, which becomes one memset: the library's `fill` writes the last byte apart from the others.
+        for i in at..end {
+            out[i] = byte;
+        }
     }
 }
 

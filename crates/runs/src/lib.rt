@@ -26,6 +26,7 @@ fn skip_blocks(xs: &[u8], i: usize, x: u8) -> usize
     ensures { Same xs.now i result x }
 {
     let mut j = i;
+    // A loop from block to block: a chain over blocks, counted and turned into an index, is no plainer.
     while 32 <= xs.len() - j && are_all(&xs[j..j + 32], x) {
         j += 32;
     }

@@ -60,6 +60,7 @@ fn measure_legs(letters: &[u8]) -> Result<Measured, LegRefusal>
     let mut i = 0;
     let mut legs: usize = 0;
     let mut bytes: usize = 0;
+    // From run to run: `chunk_by` would find each run's end byte by byte.
     while i < n {
         let end = run_end(letters, i);
         if 16384 < end - i {
@@ -91,6 +92,7 @@ fn write_legs(letters: &[u8], first: usize, out: &mut [u8])
     let n = letters.len();
     let mut at = first;
     let mut i = 0;
+    // From run to run, as above.
     while i < n {
         let code = letter_code(letters[i]);
         let end = run_end(letters, i);
