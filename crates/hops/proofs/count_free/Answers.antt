@@ -1,4 +1,4 @@
--- The next k nodes are free, and the first bad one ends the count. Assumes nothing.
+-- All n nodes that way are on the mesh. Assumes nothing.
 use Rattle.std.proofs.Common.{◌+◌, arith}
 use Rattle.hops.proofs.Ways.{reaches-on}
 use Rattle.hops.proofs.count_free.Goals as goal

@@ -1,4 +1,4 @@
--- The hops before a stop are a leg; where there is none, the hop that the stop asks for is one. Assumes nothing.
+-- Where no hop comes before a stop, the hop that the stop asks for is a leg. Assumes nothing.
 use Rattle.std.proofs.Common.{arith}
 use Rattle.travel.proofs.Runs.{leaves-row}
 use Rattle.travel.proofs.row_leg.Goals as goal
