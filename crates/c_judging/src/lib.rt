@@ -6,8 +6,10 @@ ghost use Rattle.c_judging.specs.Numbers.{JudgesInNumbers};
 
 use buffers::put_first;
 use judging::judge;
-use numbers::{NO_REQUEST, is_network, judged_code, judged_index, network_of, place_of};
+use mesh::Network;
+use numbers::{NO_REQUEST, judged_code, judged_index, place_of};
 
+#[tactic(auto, unfolding(mesh::specs::Numbers::network_read))]
 pub fn pinduguil_judge(
     network: u32,
     columns: u32,
@@ -22,12 +24,12 @@ pub fn pinduguil_judge(
 ) -> u32
     ensures { JudgesInNumbers network columns rows map.now (place source_row source_column) (place row column) letters.now index.old result index.new }
 {
-    if !is_network(network) {
+    let Ok(network) = Network::try_from(network) else {
         return NO_REQUEST;
-    }
+    };
     let s = place_of(source_row, source_column);
     let d = place_of(row, column);
-    let answer = judge(network_of(network), columns, rows, map, s, d, letters);
+    let answer = judge(network, columns, rows, map, s, d, letters);
     put_first(judged_index(answer), index);
     judged_code(answer)
 }

@@ -1,16 +1,19 @@
 -- A record that is left unchanged is the same numbers. Assumes nothing.
-use mathlib.Core.Path.{◌≡◌, refl}
-use mathlib.Core.Bool.{true}
-use mathlib.Core.List.{List}
-use Prim.Native.Nat.{ℕ, zero, suc, ◌<◌}
-use native.Mathlib.Omega.{arith}
-use lib.Dec.{eqb, ltb}
-use lib.ListN.{length, get_or}
+use Rattle.std.proofs.Common.{◌≡◌, refl, true, List, [], ◌∷◌, ℕ, zero, suc, ◌<◌, eqb, ltb, length, get_or, arith}
 use borrow.Author.Tests.{eqb-true, ltb-true}
 use Rattle.mesh.specs.Headings.{last_of, last_number}
 use Rattle.mesh.proofs.Bools.{and_both}
 use Rattle.c_moving.specs.Numbers.{is_record, packet_of, numbers_of}
-use Rattle.c_moving.proofs.Numbers.{five}
+
+-- a list of five numbers, by its numbers
+five : (xs : List ℕ) → length xs ≡ 5 → get_or xs 0 0 ∷ get_or xs 1 0 ∷ get_or xs 2 0 ∷ get_or xs 3 0 ∷ get_or xs 4 0 ∷ [] ≡ xs
+five [] h = absurd (omega arith)
+five (u ∷ []) h = absurd (omega arith)
+five (u ∷ v ∷ []) h = absurd (omega arith)
+five (u ∷ v ∷ w ∷ []) h = absurd (omega arith)
+five (u ∷ v ∷ w ∷ x ∷ []) h = absurd (omega arith)
+five (u ∷ v ∷ w ∷ x ∷ y ∷ []) h = refl
+five (u ∷ v ∷ w ∷ x ∷ y ∷ z ∷ zs) h = absurd (omega arith)
 
 last-kept : (n : ℕ) → n < 5 → last_number (last_of n) ≡ n
 unfolding last_of

@@ -1,51 +1,41 @@
 // "Move on" for programs in C and Rust (c/pinduguil.h), on a record of five numbers.
 #![tactic(auto)]
 
-ghost use Rattle.std.specs.Prelude.{◌≡◌, length};
+ghost use Rattle.std.specs.Prelude.{◌≡◌, cond, Some, None};
 ghost use Rattle.c_moving.specs.Numbers.{is_record, packet_of, numbers_of, MovesInNumbers};
 
 use headings::{last_number, last_of};
-use mesh::Packet;
+use mesh::{Network, Packet, Place};
 use moving::moved_on;
-use numbers::{NO_REQUEST, is_network, moved_code, network_of, place_of};
+use numbers::{NO_REQUEST, moved_code, place_of};
 
-// Five numbers, with a last hop in the third place.
-fn is_record(xs: &[u32]) -> bool
-    ensures { result ≡ is_record xs.now }
+// Five numbers, with a last hop in the third place, are a record.
+#[tactic(auto, unfolding(crate::specs::Numbers::is_record, crate::specs::Numbers::packet_of))]
+fn read_packet(xs: &[u32]) -> Option<Packet>
+    ensures { result ≡ cond (is_record xs.now) (Some (packet_of xs.now)) None }
 {
-    if xs.len() != 5 {
-        return false;
-    }
-    xs[2] < 5
-}
-
-fn read_packet(xs: &[u32]) -> Packet
-    requires { length xs.now ≡ 5 }
-    ensures { result ≡ packet_of xs.now }
-{
-    let place = place_of(xs[0], xs[1]);
-    let last = last_of(xs[2]);
-    let destination = place_of(xs[3], xs[4]);
-    Packet {
-        place,
-        last,
-        destination,
+    match *xs {
+        [row, column, last, to_row, to_column] if last < 5 => Some(Packet {
+            place: place_of(row, column),
+            last: last_of(last),
+            destination: place_of(to_row, to_column),
+        }),
+        _ => None,
     }
 }
 
-fn write_packet(p: Packet, xs: &mut [u32])
-    requires { length xs.old ≡ 5 }
-    ensures { xs.new ≡ numbers_of p }
+// The five numbers of a record.
+#[tactic(auto, unfolding(crate::specs::Numbers::numbers_of))]
+fn numbers_of(p: Packet) -> [u32; 5]
+    ensures { result ≡ numbers_of p }
 {
-    let last = p.last;
-    xs[0] = p.place.row.0;
-    xs[1] = p.place.column.0;
-    xs[2] = last_number(last);
-    xs[3] = p.destination.row.0;
-    xs[4] = p.destination.column.0;
+    let Place { row, column } = p.place;
+    let to = p.destination;
+    [row.0, column.0, last_number(p.last), to.row.0, to.column.0]
 }
 
 // Move on, for a record of five numbers: row, column, last hop, destination row, destination column.
+#[tactic(auto, unfolding(mesh::specs::Numbers::network_read, crate::specs::Numbers::is_record, crate::specs::Numbers::numbers_of))]
 pub fn pinduguil_move_on(
     network: u32,
     columns: u32,
@@ -55,16 +45,13 @@ pub fn pinduguil_move_on(
 ) -> u32
     ensures { MovesInNumbers network columns rows map.now packet.old result packet.new }
 {
-    if !is_network(network) {
+    let Ok(network) = Network::try_from(network) else {
         return NO_REQUEST;
-    }
-    if !is_record(packet) {
+    };
+    let Some(p) = read_packet(packet) else {
         return NO_REQUEST;
-    }
-    let p = read_packet(packet);
-    let stepped = moved_on(network_of(network), columns, rows, map, p);
-    let next = stepped.packet;
-    let answer = stepped.moved;
-    write_packet(next, packet);
-    moved_code(answer)
+    };
+    let stepped = moved_on(network, columns, rows, map, p);
+    packet.copy_from_slice(&numbers_of(stepped.packet));
+    moved_code(stepped.moved)
 }

@@ -4,9 +4,11 @@
 ghost use Rattle.mesh.specs.Mesh.{place};
 ghost use Rattle.c_routing.specs.Numbers.{RoutesInNumbers};
 
-use numbers::{NO_REQUEST, is_network, network_of, place_of, routed_code};
+use mesh::Network;
+use numbers::{NO_REQUEST, answer_code, place_of};
 use routing::route;
 
+#[tactic(auto, unfolding(mesh::specs::Numbers::network_read))]
 pub fn pinduguil_route(
     network: u32,
     columns: u32,
@@ -20,11 +22,10 @@ pub fn pinduguil_route(
 ) -> u32
     ensures { RoutesInNumbers network columns rows map.now (place source_row source_column) (place row column) out.old result out.new }
 {
-    if !is_network(network) {
+    let Ok(network) = Network::try_from(network) else {
         return NO_REQUEST;
-    }
+    };
     let s = place_of(source_row, source_column);
     let d = place_of(row, column);
-    let answer = route(network_of(network), columns, rows, map, s, d, out);
-    routed_code(answer)
+    answer_code(route(network, columns, rows, map, s, d, out))
 }

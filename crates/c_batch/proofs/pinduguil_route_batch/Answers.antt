@@ -1,12 +1,16 @@
--- The operation keeps its promise; its answer fixes the number that is returned and the one that is put first. Assumes nothing.
-use mathlib.Core.Path.{sym, ◌∙◌}
-use Rattle.c_batch.proofs.Numbers.{routes-batch, no-network}
+-- A refusal of an answer is the refusal that it was made of. Assumes nothing.
+use Rattle.std.proofs.Common.{ap, arith}
+use Rattle.std.proofs.lemmas.Grind.{common_steps}
+use Rattle.mesh.specs.Numbers.{answer_refusal, network_read}
+use Rattle.mesh.proofs.Numbers.{answer-refusal}
 use Rattle.c_batch.proofs.pinduguil_route_batch.Goals as goal
 
-pub returns-then-not-is_network : goal.returns-then-not-is_network
-returns-then-not-is_network c = no-network (sym c.is_network.ensures ∙ c.if-not-is_network.true)
-
 pub returns : goal.returns
+unfolding network_read
 returns c =
-    routes-batch (sym c.is_network.ensures ∙ c.if-not-is_network.false) c.network_of.ensures
-    c.route_batch-answer.result c.route_batch-answer.ensures c.put_letters.ensures c.batched_code.ensures
+    record {
+      refuses = let e = rw answer-refusal at (ap answer_refusal c.route_batch-answer.ensures.returns) in grind (arith, common_steps, e);
+      enters = grind (arith, common_steps);
+      writes = grind (arith, common_steps);
+      counts = grind (arith, common_steps);
+    }
