@@ -2,7 +2,7 @@
 use Rattle.std.proofs.Common.{◌≡◌, Bool, List, [], ◌++◌, ℕ, ◌-◌, Option, None, Some, length, take, drop, sym, ap, ◌∙◌, append_assoc, append-nil, take-append-drop}
 use Rattle.std.proofs.lemmas.List.{take_rest}
 use Rattle.std.specs.Io.KnownBytes.{Appends, Keeps}
-use Rattle.std.proofs.KnownBytes.{Appends-nil, Appends-trans}
+use Rattle.std.proofs.KnownBytes.{Appends-trans}
 use Rattle.sheet_writer.specs.Writing.{AppendsPart, Writes}
 
 pub keeps-none : (a b : Option (List ℕ)) → Keeps a b → Appends a b []
@@ -30,11 +30,8 @@ part-more ys p e =
       appends = p.appends;
     }
 
-part-all : {a b : Option (List ℕ)} (xs : List ℕ) → Appends a b xs → AppendsPart a b xs
+pub part-all : {a b : Option (List ℕ)} (xs : List ℕ) → Appends a b xs → AppendsPart a b xs
 part-all xs p = record { part = xs; rest = []; parts = sym (append-nil xs); appends = p }
-
-pub writes-nothing : (a : Option (List ℕ)) (w : Bool) → Writes a a [] w
-writes-nothing a w = record { whole = λ _. Appends-nil a; part = part-all [] (Appends-nil a) }
 
 -- one thing after another, of which the first was written
 pub writes-after : {a b c : Option (List ℕ)} (xs : List ℕ) {ys all : List ℕ} {w : Bool} → Appends a b xs → Writes b c ys w → all ≡ xs ++ ys → Writes a c all w
