@@ -9,7 +9,7 @@ ghost use Rattle.judging.specs.Marked.{judgement_on};
 
 use headings::read_letter;
 use hops::{is_there, test_hop};
-use marking::mark_map;
+use marking::mark_in;
 use mesh::{Mistake, Network, NotPassed, Packet, Place};
 use nodes::Nodes;
 use requests::check_places;
@@ -72,6 +72,6 @@ pub fn judge(
     ensures { judged_verdict result ≡ judgement network columns rows map.now s d letters.now }
 {
     let mut marks = [0u8; 4096];
-    let marks = mark_map(columns, rows, map, &mut marks)?;
+    let marks = mark_in(columns, rows, map, &mut marks)?;
     judge_marked(network, &marks.nodes, s, d, letters)
 }
