@@ -10,6 +10,7 @@ use lib.ListN.{length, drop, set, length-set, length-append}
 use lib.Seq.{drop-drop}
 use Rattle.mesh.specs.Numbers.{number, answer_code}
 use Rattle.mesh.specs.Routing.{routed_answer}
+use Rattle.mesh.proofs.Numbers.{number-few}
 use Rattle.numbers.specs.Coded.{Coded}
 use Rattle.theory_batch.specs.declared.Send.{Send}
 use Rattle.theory_batch.specs.Sends.{sends_of}
@@ -24,7 +25,7 @@ use Rattle.batch.proofs.Sends.{sends-next, sends-end}
 -- a call's answer as one number
 pub coded : {e : ℕ} (r : Result ℕ Refusal) → MatchResult r (λ n. e ≡ n) (λ why. Coded (λ k. k ≡ number why) e) → e ≡ answer_code (routed_answer r)
 coded (Ok n) h = h
-coded (Err why) (k, is-k, is-e) = rw (is-e, is-k)
+coded (Err why) (k, is-k, is-e) = rw (is-e (rw is-k (omega (arith, number-few why))), is-k)
 
 -- the calls of the sends from index i on, with the output that is free from index at on
 abbrev pub onward : (Send → List ℕ → Call) → List ℕ → ℕ → ℕ → List ℕ → List Call

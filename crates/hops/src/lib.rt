@@ -72,6 +72,7 @@ pub fn count_free(nodes: &Nodes, s: Place, h: Heading, n: u32) -> u32
     requires { Reaches nodes.now.columns nodes.now.rows h n s.row.0 s.column.0 }
     ensures { Free (bad nodes.now) h n s.row.0 s.column.0 result }
 {
+    // Opens the nodes: what is true of their size is known from here on.
     let _ = &nodes.columns;
     for k in 0..n {
         if nodes.is_bad_node(place_by(s, h, k + 1)) {

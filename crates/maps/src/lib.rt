@@ -76,6 +76,7 @@ pub fn has_misplaced(nodes: &Nodes) -> bool
 }
 
 // Refusals 1 to 5, in this order; where none applies, the nodes of the map.
+// The operations take columns, rows and map apart, as C and every caller has them, unchecked: from here on they are one value.
 #[tactic(auto, unfolding(mesh::specs::Maps::map_tests, mesh::specs::Tests::first))]
 pub fn check_map<'a>(columns: u32, rows: u32, map: &'a [u8]) -> Result<Nodes<'a>, Refusal>
     ensures refusals { checked_number result ≡ first (map_tests columns rows map.now) }

@@ -52,6 +52,7 @@ pub fn mark_blocks(columns: u32, rows: u32, map: &[u8], out: &mut [u8]) -> Resul
     ensures { MarksBlocks columns rows map.now out.old result out.new }
 {
     let nodes = check_map(columns, rows, map)?;
+    // A test, since `get_mut(..n)` would say nothing of what stays in `out` where it gives None.
     if out.len() < map.len() {
         return Err(Refusal::Room);
     }

@@ -4,12 +4,13 @@
 ghost use Rattle.std.specs.Prelude.{◌≡◌, ◌<◌, ℕ, MatchResult};
 ghost use Rattle.std.specs.Result.{IfErr};
 ghost use Rattle.mesh.specs.Mesh.{place};
+ghost use Rattle.mesh.specs.Numbers.{is_network, network_of};
 ghost use Rattle.mesh.specs.Moving.{moved_told, told_code};
 ghost use Rattle.mesh.specs.Judging.{judged_verdict, verdict_code, verdict_index};
 ghost use Rattle.numbers.specs.Coded.{Coded};
 
 use headings::letter;
-use mesh::{Column, Heading, NotPassed, Place, Refusal, Row};
+use mesh::{Column, Heading, Network, NotPassed, Place, Refusal, Row};
 
 pub fn place_of(row: u32, column: u32) -> Place
     ensures { result ≡ place row column }
@@ -20,18 +21,33 @@ pub fn place_of(row: u32, column: u32) -> Place
     }
 }
 
+// Whether it is the number of a network.
+#[tactic(auto, unfolding(mesh::specs::Numbers::network_read))]
+pub fn is_network(n: u32) -> bool
+    ensures { result ≡ is_network n }
+{
+    Network::try_from(n).is_ok()
+}
+
+// The network of that number: 1 the first, every other the second. It answers for each number, as it always has; the exports for C ask `try_from`.
+#[tactic(auto, unfolding(mesh::specs::Numbers::network_read, mesh::specs::Numbers::network_of, mesh::specs::Numbers::is_network))]
+pub fn network_of(n: u32) -> Network
+    ensures { result ≡ network_of n }
+{
+    Network::try_from(n).unwrap_or(Network::Second)
+}
+
 // What is answered where numbers are no request.
 pub const NO_REQUEST: u32 = 65536;
 
 // What is returned, or 65,536 plus the number of the refusal.
 #[tactic(auto, unfolding(mesh::specs::Numbers::refusal_code))]
 pub fn answer_code<E: Into<u32>>(answer: Result<u32, E>) -> u32
-    requires { IfErr answer (λ why. (n : ℕ) → E.converts why n → n < 65536) }
     ensures { MatchResult answer (λ n. result ≡ n) (λ why. Coded (E.converts why) result) }
 {
     match answer {
         Ok(n) => n,
-        Err(why) => 65536 + why.into(),
+        Err(why) => 65536u32.wrapping_add(why.into()),
     }
 }
 

@@ -36,6 +36,7 @@ fn round(nodes: &Nodes, due: &[bool], next: &mut [u8])
 }
 
 // Copies row r if it is due, and says whether that changes anything.
+// Here and below columns, rows and out stay apart: a round reads out as `Nodes` and then writes it, which one value can't lend both ways.
 fn copy_row(columns: u32, rows: u32, next: &[u8], due: &[bool], out: &mut [u8], r: Row) -> bool
     requires { Sized columns rows out.old × (r.0 < rows) × (rows ≤ length due.now) × (length out.old ≤ length next.now) }
     ensures { RowCopied columns r.0 next.now due.now out.old result out.new }

@@ -1,4 +1,5 @@
-// The hop rules.
+// The hop rules. Network, nodes and packet stay three arguments: the packet changes at each hop, so one value of the three would be made anew
+// at each.
 #![tactic(auto)]
 
 ghost use Rattle.std.specs.Prelude.{◌≡◌, false, ◌&&◌};
