@@ -19,13 +19,13 @@ module _ (columns rows draws : ℕ) where
         | no w ↦ elim (dec_lt rows 3) [ yes l ↦ true-false (refused (inr (h, inr l))) good | no l ↦ (omega arith, omega arith) ]
       ]
 
-  told : Undrawable columns rows draws → (ltb 1000 draws || (not (eqb draws 0) && (ltb columns 5 || ltb rows 3))) ≡ true
+  told : Undrawable columns rows draws → (not (eqb draws 0) && (ltb 1000 draws || ltb columns 5 || ltb rows 3)) ≡ true
   told (inl h) = grind (arith, common_steps)
   told (inr (h, inl w)) = grind (arith, common_steps)
   told (inr (h, inr l)) = grind (arith, common_steps)
 
-  untold : (ltb 1000 draws || (not (eqb draws 0) && (ltb columns 5 || ltb rows 3))) ≡ true → Undrawable columns rows draws
+  untold : (not (eqb draws 0) && (ltb 1000 draws || ltb columns 5 || ltb rows 3)) ≡ true → Undrawable columns rows draws
   untold t = grind (arith, common_steps)
 
-  pub bad_draws_tested : bad_draws columns rows draws ≡ (ltb 1000 draws || (not (eqb draws 0) && (ltb columns 5 || ltb rows 3)))
+  pub bad_draws_tested : bad_draws columns rows draws ≡ (not (eqb draws 0) && (ltb 1000 draws || ltb columns 5 || ltb rows 3))
   bad_draws_tested = bool-ext _ _ (λ t. told ((refusal-24 columns rows draws).0 t)) (λ t. refused (untold t))

@@ -16,7 +16,11 @@ use theory_draw::DrawRefusal;
 fn is_bad_draws(columns: u32, rows: u32, draws: u32) -> bool
     ensures { result ≡ bad_draws columns rows draws }
 {
-    1000 < draws || (draws != 0 && (columns < 5 || rows < 3))
+    match draws {
+        0 => false,
+        1..=1000 => columns < 5 || rows < 3,
+        _ => true,
+    }
 }
 
 // Sets a fault, and answers how many that adds: none if the node was faulty, else one.

@@ -1,6 +1,6 @@
 -- The state and the place as the code works them out. Assumes nothing.
-use Rattle.std.proofs.Common.{◌≡◌, ℕ, ◌+◌, ◌-◌, ◌*◌, ◌/◌, ◌%◌, ◌^◌, ◌<◌, ◌≤◌, sym, mul-le-mul, div-le_self, arith}
-use native.Mathlib.Nat.{mod-add-mod, mod-le}
+use Rattle.std.proofs.Common.{◌≡◌, ℕ, ◌+◌, ◌-◌, ◌*◌, ◌/◌, ◌%◌, ◌^◌, ◌<◌, ◌≤◌, sym, mul-le-mul, arith}
+use native.Mathlib.Nat.{mod-add-mod}
 use Rattle.mesh.specs.Mesh.{place}
 use Rattle.theory_draw.specs.Draws.{next_state, place_count, picked, picked_place}
 use Rattle.theory_draw.proofs.Theorems.{place-count, place-of-number}
@@ -22,11 +22,8 @@ module _ (columns rows : ℕ) (wide : 5 ≤ columns) (high : 3 ≤ rows) where
     low-number =
         rw (is, ← place-count columns rows) (picked-below _ state (some-place columns rows wide high) fits)
 
-    pub place-small : columns ≤ 64 → rows ≤ 64 → (k / (columns - 4) ≤ 3720) × (k % (columns - 4) ≤ 3720)
-    place-small p q =
-        let few = places-few p q in
-        let below = rw (place-count columns rows) at low-number in
-        (omega (arith, div-le_self k (columns - 4)), omega (arith, mod-le k (columns - 4)))
+    pub number-small : columns ≤ 64 → rows ≤ 64 → k ≤ 3720
+    number-small p q = let few = places-few p q in let below = rw (place-count columns rows) at low-number in omega arith
 
     pub place-picked : place (k / (columns - 4) + 1) (k % (columns - 4) + 2) ≡ picked_place columns rows state
     unfolding picked_place

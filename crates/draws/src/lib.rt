@@ -27,9 +27,11 @@ pub fn pick_place(columns: u32, rows: u32, state: u32) -> Place
 {
     let wide = columns - 4;
     let high = rows - 2;
-    let k = pick(high * wide, state);
+    // There are at most 3,720: they are divided in 16 bits, which is faster.
+    let k = pick(high * wide, state) as u16;
+    let wide = wide as u16;
     Place {
-        row: Row(k / wide + 1),
-        column: Column(k % wide + 2),
+        row: Row(u32::from(k / wide) + 1),
+        column: Column(u32::from(k % wide) + 2),
     }
 }
