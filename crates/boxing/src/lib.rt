@@ -52,6 +52,7 @@ fn merge_row(nodes: &Nodes, list: &mut [u32], r: Row, n: usize) -> usize
         boxes: n,
         next: start,
     };
+    // No `for`: a step may go past several nodes.
     while step.next < end {
         step = merge_node(nodes, list, r, step.next, step.boxes);
     }
