@@ -1,26 +1,39 @@
 // The sheet program: reads a sheet from standard input and writes its answers to standard output.
 #![tactic(auto)]
 
-ghost use Rattle.std.specs.Prelude.{◌≡◌, ◌≤◌, length, take, IfSome};
-ghost use Rattle.theory_sheet.specs.Reader.{feed_all};
+ghost use Rattle.std.specs.Prelude.{◌≡◌, ◌≤◌, length, is_ok, IfOk, IfSome};
 ghost use Rattle.theory_sheet.specs.Sheet.{sheet};
 ghost use Rattle.sheet_writer.specs.Writing.{AppendsPart, Writes};
 ghost use Rattle.sheet_lines.specs.Answers.{answer_room};
 ghost use Rattle.sheet_bytes.specs.Reading.{reader_of, Reading};
-ghost use Rattle.sheet.specs.Program.{Reads, Takes, goes_on, ReadsAll, AnswersAll, Ends, cannot_write, Tells, TellsOnce};
+ghost use Rattle.sheet.specs.declared.Failed.TheVariants.{Unwritten as Unanswered};
+ghost use Rattle.sheet.specs.Program.{Reads, Takes, goes_on, ReadsAll, AnswersAll, told_of, TellsOnce};
 
 use sheet_bytes::{Reader, begin};
 use sheet_reader::finish;
-use sheet_writer::{answer_some, write_whole};
+use sheet_writer::{Unwritten, answer_some, write_whole};
 use std::io;
 
-// What came of a read: how many bytes, or that it failed; the reader after them, and whether their answers could be written.
+// What failed.
 #[derive(Clone, Copy)]
+enum Failed {
+    Unread,
+    Unwritten,
+}
+
+impl From<Unwritten> for Failed {
+    ghost from_gives = { λ _ why. why ≡ Unanswered };
+
+    fn from(_unwritten: Unwritten) -> Failed {
+        Failed::Unwritten
+    }
+}
+
+// What came of a read: how many bytes, and the reader after them.
+#[derive(Drop)]
 struct Read {
     came: usize,
-    failed: bool,
     reader: Reader,
-    written: bool,
 }
 
 // Reads once, and answers what came.
@@ -31,38 +44,22 @@ fn read_some<R: io::Read, W: io::Write>(
     chunk: &mut [u8],
     map: &mut [u8],
     out: &mut [u8],
-) -> Read
+) -> Result<Read, Failed>
     requires { Reading reader map.old × (answer_room ≤ length out.old) }
-    ensures reads { Reads (reader_of reader map.old) result chunk.new map.new }
-    ensures takes { Takes (R.remaining from.old) (R.remaining from.new) result (length chunk.old) chunk.new }
-    ensures writes { Writes (W.contents to.old) (W.contents to.new) (feed_all (reader_of reader map.old) (take result.came chunk.new)).printed result.written }
+    ensures reads { IfOk result (λ x. Reads (reader_of reader map.old) x chunk.new map.new) }
+    ensures takes { Takes (reader_of reader map.old) (R.remaining from.old) (R.remaining from.new) (W.contents to.old) (W.contents to.new) result (length chunk.old) chunk.new }
 {
-    let got = from.read(chunk);
-    let failed = got.is_err();
-    let came = got.unwrap_or(0);
-    let answered = answer_some(to, reader, &chunk[..came], map, out);
-    let next = answered.reader;
-    Read {
-        came,
-        failed,
-        reader: next,
-        written: answered.written,
-    }
+    let came = from.read(chunk).map_err(|_| Failed::Unread)?;
+    let reader = answer_some(to, reader, &chunk[..came], map, out)?;
+    Ok(Read { came, reader })
 }
 
-// Whether to read on: something came, the run is not over, and its answers could be written.
+// Whether to read on: something came, and the run is not over.
 #[tactic(auto, unfolding(crate::specs::Program::goes_on))]
-fn reads_on(read: Read) -> bool
-    ensures { result ≡ goes_on read }
+fn reads_on(read: &Read) -> bool
+    ensures { result ≡ goes_on read.now }
 {
-    if read.came == 0 {
-        return false;
-    }
-    let reader = read.reader;
-    if reader.standing.over {
-        return false;
-    }
-    read.written
+    read.came != 0 && !read.reader.over
 }
 
 // Reads and answers to the end of the input or of the run, or until a read or a write fails.
@@ -72,58 +69,49 @@ fn read_all<R: io::Read, W: io::Write>(
     chunk: &mut [u8],
     map: &mut [u8],
     out: &mut [u8],
-) -> Read
+) -> Result<Read, Failed>
     requires { (4096 ≤ length map.old) × (answer_room ≤ length out.old) }
-    ensures reads { ReadsAll result map.new }
+    ensures reads { IfOk result (λ x. ReadsAll x map.new) }
     ensures answers { AnswersAll (R.remaining from.old) (R.remaining from.new) (W.contents to.old) (W.contents to.new) (length chunk.old) result map.new }
 {
-    let mut r = begin();
+    let mut reader = begin();
     loop {
-        let read = read_some(from, to, r, chunk, map, out);
-        if !reads_on(read) {
-            return read;
+        let read = read_some(from, to, reader, chunk, map, out)?;
+        if !reads_on(&read) {
+            return Ok(read);
         }
-        r = read.reader;
+        reader = read.reader;
     }
 }
 
-// Says that answers could not be written.
-fn tell_unwritten<E: io::Write>(tell: &mut E)
-    ensures { AppendsPart (E.contents tell.old) (E.contents tell.new) cannot_write }
-{
-    write_whole(tell, b"sheet: cannot write\n");
-}
-
-// The end of the sheet, once all of it is read; and whether all of it was read and answered. Where a read or a write failed a message says so,
-// and nothing more is printed.
-fn end_sheet<W: io::Write, E: io::Write>(
+// The whole sheet. What is written is what is defined for it, or where a read or a write failed a first part of that.
+fn answer_sheet<R: io::Read, W: io::Write>(
+    from: &mut R,
     to: &mut W,
-    tell: &mut E,
-    last: Read,
+    chunk: &mut [u8],
     map: &mut [u8],
     out: &mut [u8],
-) -> bool
-    requires { Reading last.reader map.old × (answer_room ≤ length out.old) }
-    ensures ends { Ends (W.contents to.old) (W.contents to.new) last map.old result }
-    ensures tells { Tells (E.contents tell.old) (E.contents tell.new) last result }
+) -> Result<(), Failed>
+    requires { (4096 ≤ length map.old) × (answer_room ≤ length out.old) }
+    ensures { 1 ≤ length chunk.old → IfSome (R.remaining from.old) (λ xs. Writes (W.contents to.old) (W.contents to.new) (sheet xs) (is_ok result)) }
 {
-    if last.failed {
-        write_whole(tell, b"sheet: cannot read\n");
-        return false;
-    }
-    if !last.written {
-        tell_unwritten(tell);
-        return false;
-    }
+    let last = read_all(from, to, chunk, map, out)?;
     let at = finish(last.reader, map, out, 0);
-    let written = write_whole(to, &out[..at]);
-    if !written {
-        tell_unwritten(tell);
-    }
-    written
+    write_whole(to, &out[..at])?;
+    Ok(())
 }
 
-// The whole sheet; and whether all of it was read and answered. Then what is written is what is defined for it, and else a first part of that.
+// Says what failed; of which, where that fails too, a first part.
+fn tell_failed<E: io::Write>(tell: &mut E, why: Failed)
+    ensures { AppendsPart (E.contents tell.old) (E.contents tell.new) (told_of why) }
+{
+    let _ = match why {
+        Failed::Unread => write_whole(tell, b"sheet: cannot read\n"),
+        Failed::Unwritten => write_whole(tell, b"sheet: cannot write\n"),
+    };
+}
+
+// The whole sheet; and whether all of it was read and answered. Where a read or a write failed a message says so, and nothing more is printed.
 fn run<R: io::Read, W: io::Write, E: io::Write>(
     from: &mut R,
     to: &mut W,
@@ -136,8 +124,13 @@ fn run<R: io::Read, W: io::Write, E: io::Write>(
     ensures writes { 1 ≤ length chunk.old → IfSome (R.remaining from.old) (λ xs. Writes (W.contents to.old) (W.contents to.new) (sheet xs) result) }
     ensures tells { TellsOnce (E.contents tell.old) (E.contents tell.new) result }
 {
-    let last = read_all(from, to, chunk, map, out);
-    end_sheet(to, tell, last, map, out)
+    match answer_sheet(from, to, chunk, map, out) {
+        Ok(()) => true,
+        Err(why) => {
+            tell_failed(tell, why);
+            false
+        }
+    }
 }
 
 fn main(rt: HostRuntime) {
