@@ -11,7 +11,7 @@ ghost use Rattle.sheet.specs.Program.{Reads, Takes, goes_on, ReadsAll, AnswersAl
 
 use sheet_bytes::{Reader, begin};
 use sheet_reader::finish;
-use sheet_writer::{Unwritten, answer_some, write_whole};
+use sheet_writer::{Stopped, Unwritten, answer_some, write_whole};
 use std::io;
 
 // What failed.
@@ -25,6 +25,14 @@ impl From<Unwritten> for Failed {
     ghost from_gives = { λ _ why. why ≡ Unanswered };
 
     fn from(_unwritten: Unwritten) -> Failed {
+        Failed::Unwritten
+    }
+}
+
+impl From<Stopped> for Failed {
+    ghost from_gives = { λ _ why. why ≡ Unanswered };
+
+    fn from(_stopped: Stopped) -> Failed {
         Failed::Unwritten
     }
 }

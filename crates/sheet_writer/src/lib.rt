@@ -1,7 +1,7 @@
 // Answers to the bytes of a sheet, written as they come.
 #![tactic(auto)]
 
-ghost use Rattle.std.specs.Prelude.{◌≡◌, ◌≤◌, length, is_ok, IfOk};
+ghost use Rattle.std.specs.Prelude.{◌≡◌, ◌≤◌, length, is_ok, IfOk, IfErr};
 ghost use Rattle.theory_sheet.specs.Reader.{feed_all};
 ghost use Rattle.sheet_lines.specs.Answers.{answer_room};
 ghost use Rattle.sheet_bytes.specs.Reading.{reader_of, Reading};
@@ -29,6 +29,12 @@ pub fn write_whole<W: Write>(to: &mut W, bytes: &[u8]) -> Result<(), Unwritten>
     Ok(())
 }
 
+// Answers that could not be written, and the reader after them.
+#[derive(Drop)]
+pub struct Stopped {
+    pub reader: Reader,
+}
+
 // Answers bytes of the sheet, as many at a time as there is room for, and writes the answers; and the reader after them.
 pub fn answer_some<W: Write>(
     to: &mut W,
@@ -36,9 +42,10 @@ pub fn answer_some<W: Write>(
     bytes: &[u8],
     map: &mut [u8],
     out: &mut [u8],
-) -> Result<Reader, Unwritten>
+) -> Result<Reader, Stopped>
     requires { Reading reader map.old × (answer_room ≤ length out.old) }
     ensures answers { IfOk result (λ r. Answers (reader_of reader map.old) bytes.now r map.new) }
+    ensures stopped { IfErr result (λ s. Reading s.reader map.new) }
     ensures writes { Writes (W.contents to.old) (W.contents to.new) (feed_all (reader_of reader map.old) bytes.now).printed (is_ok result) }
 {
     let mut reader = reader;
@@ -49,7 +56,9 @@ pub fn answer_some<W: Write>(
             at,
             taken,
         } = take_bytes(reader, &bytes[used..], map, out);
-        write_whole(to, &out[..at])?;
+        if write_whole(to, &out[..at]).is_err() {
+            return Err(Stopped { reader: next });
+        }
         reader = next;
         used += taken;
     }

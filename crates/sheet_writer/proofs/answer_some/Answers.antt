@@ -10,11 +10,11 @@ use Rattle.sheet_writer.proofs.answer_some.Goals.{then-loop-used-test+else-not-r
 pub loop-used-init : goal.loop-used-init
 loop-used-init g c = using-none c.requires.0
 
-pub returns-in_err-write_whole-clause-writes : goal.returns-in_err-write_whole-clause-writes
-returns-in_err-write_whole-clause-writes g c =
+pub returns-then-is_err-clause-writes : goal.returns-then-is_err-clause-writes
+returns-then-is_err-clause-writes g c =
     let room : answer_room ≤ length c.loop-used.out = omega arith in
-    let no : is_ok c.from_residual.result ≡ false = grind (arith, common_steps) in
-    rw no (write-failed c.loop-used.invariant c.loop-used-test.true (not-true _ c.if-not-reader.true) c.take_bytes-next.ensures room c.write_whole.ensures)
+    let no : is_ok c.write_whole.result ≡ false = grind (arith, common_steps) in
+    write-failed c.loop-used.invariant c.loop-used-test.true (not-true _ c.if-not-reader.true) c.take_bytes-next.ensures room (rw no at c.write_whole.ensures)
 
 pub loop-used-smaller : goal.loop-used-smaller
 loop-used-smaller g c =
