@@ -10,7 +10,7 @@ use boxing::box_blocks;
 use mesh::Refusal;
 use numbers::answer_code;
 
-// The number of boxes, or 65,536 plus the refusal.
+// The number of boxes, or 65,536 plus the refusal. One call, and public: its clause says what the number is.
 pub fn boxed_code(answer: Result<u32, Refusal>) -> u32
     ensures { result ≡ answer_code (boxed_answer answer) }
 {

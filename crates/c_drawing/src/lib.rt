@@ -10,7 +10,7 @@ use drawing::draw;
 use numbers::answer_code;
 use theory_draw::DrawRefusal;
 
-// The number of distinct faults, or 65,536 plus the refusal.
+// The number of distinct faults, or 65,536 plus the refusal. One call, and public: its clause says what the number is.
 pub fn drawn_code(answer: Result<u32, DrawRefusal>) -> u32
     ensures { result ≡ answer_code (drawn_answer answer) }
 {

@@ -58,7 +58,8 @@ impl Held {
     }
 }
 
-// A sheet being read: what the lines before this one have said, its number, what is held of it, and whether the run is over.
+// A sheet being read: what the lines before this one have said, its number, what is held of it, and whether the run is over: a state, in which
+// the others are still there.
 #[derive(Drop)]
 pub struct Reader {
     pub sheet: Sheet,
@@ -67,7 +68,7 @@ pub struct Reader {
     pub over: bool,
 }
 
-// What was read: a line, or a byte of one that is held.
+// What was read: a line, or a byte of one that is held. An Option of an Option would be no plainer.
 #[derive(Clone, Copy)]
 pub enum Read {
     Line(Option<Command>),

@@ -20,7 +20,8 @@ use walk::MOST_HOPS;
 // Room for all that is printed for a line.
 pub const ANSWER_ROOM: usize = MOST_HOPS + 26;
 
-// A line answered: what has been said now, the index after what is printed, and whether the run is over.
+// A line answered: what has been said now, the index after what is printed, and whether the run is over: a state, in which the others are still
+// there.
 #[derive(Clone, Copy)]
 pub struct Answered {
     pub sheet: Sheet,

@@ -63,6 +63,7 @@ pub fn take_bytes(reader: Reader, bytes: &[u8], map: &mut [u8], out: &mut [u8]) 
     let mut reader = reader;
     let mut at = 0;
     let mut taken = 0;
+    // By an index: it is answered, and grows by a byte or by a whole line.
     while can_go_on(taken, bytes.len(), reader.over, at, room) {
         let next = read_next(reader.number, &bytes[taken..], &mut reader.held);
         at = answer_read(&mut reader, next.read, map, &mut letters, out, at);

@@ -50,6 +50,7 @@ pub fn answer_some<W: Write>(
 {
     let mut reader = reader;
     let mut used = 0;
+    // By an index: how many bytes a step uses is known only after it.
     while used < bytes.len() && !reader.over {
         let Taken {
             reader: next,
