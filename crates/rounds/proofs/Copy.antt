@@ -1,37 +1,55 @@
--- A part of a list, written over by the same part of another. Assumes nothing.
-use Rattle.std.proofs.Common.{rules, ◌≡◌, refl, sym, ap, ◌∙◌, Bool, not, List, ℕ, nat_eq, ◌+◌, ◌-◌, ◌≤◌, ◌<◌, length, get_or}
-use native.Mathlib.Omega.{arith}
-use borrow.Rule.Slice.PartMut.{put_mid}
-use lib.Pointwise.{pointwise}
-use Rattle.std.specs.List.{between}
-use Rattle.std.proofs.lemmas.Bool.Decides.{Decides-eqb}
-use Rattle.std.proofs.lemmas.List.Edits.{length-between, get_or-between}
-use Rattle.std.proofs.lemmas.List.{places, ext_get_or}
-use Rattle.std.proofs.lemmas.Slice.Eq.{slice_eq-Decides}
-use Rattle.std.proofs.lemmas.Bool.{not-false}
+-- Copying a part of a list over another, number by number. Assumes nothing.
+use Rattle.std.proofs.Common.{◌≡◌, refl, sym, ◌∙◌, Bool, true, false, List, ℕ, ◌+◌, ◌≤◌, ◌<◌, length, get_or, arith}
+use native.Mathlib.Decide.{dec_lt}
+use lib.ListN.{set, length-set}
+use lib.Seq.{ext_get_or, get_or-set_same, get_or-set_other}
 use Rattle.mesh.proofs.Bools.{true-false}
 use Rattle.rounds.specs.Rounds.{Copied}
 
-module _ (xs ys : List ℕ) (start end : ℕ) (begun : start ≤ end) (long : end ≤ length xs) (room : end ≤ length ys) where
-  part-of : (zs : List ℕ) (j : ℕ) → start ≤ j → j < end → get_or zs j 0 ≡ get_or (between start end zs) (j - start) 0
-  part-of zs j l m = let e : start + (j - start) ≡ j = omega arith in rw (get_or-between zs start end (j - start) 0 (omega arith), e)
+pub copied_none : (xs ys : List ℕ) (start : ℕ) → Copied xs ys start start false ys
+copied_none xs ys start =
+    record {
+      size = refl;
+      new = λ j l h. absurd (omega arith);
+      before = λ j h. refl;
+      after = λ j h. refl;
+      same = λ e j l h. absurd (omega arith);
+      differ = λ e. true-false e refl;
+    }
 
-  parts-alike : ((j : ℕ) → start ≤ j → j < end → get_or xs j 0 ≡ get_or ys j 0) → between start end ys ≡ between start end xs
-  parts-alike h =
-      ext_get_or 0 _ _ (length-between ys start end room ∙ sym (length-between xs start end long))
-      (λ i l.
-      let m : start + i < end = omega (arith, length-between ys start end room) in
-      rw (get_or-between ys start end i 0 m, get_or-between xs start end i 0 m) (sym (h (start + i) (omega arith) m)))
-
-  pub copied : {x : Bool} → x ≡ not (pointwise nat_eq (between start end ys) (between start end xs)) →
-      Copied xs ys start end x (put_mid start (end - start) ys (between start end xs))
-  copied e =
-      let alike = slice_eq-Decides Decides-eqb (between start end ys) (between start end xs) _ refl in
+-- one number more
+module _ (xs ys now : List ℕ) (start i : ℕ) {x : Bool} (t : Copied xs ys start i x now) (s : start ≤ i) (h : i < length now) where
+  more : (x' : Bool) → (x' ≡ false → (j : ℕ) → start ≤ j → j < i + 1 → get_or xs j 0 ≡ get_or ys j 0) →
+      (x' ≡ true → ((j : ℕ) → start ≤ j → j < i + 1 → get_or xs j 0 ≡ get_or ys j 0) → ⊥) →
+      Copied xs ys start (i + 1) x' (set now i (get_or xs i 0))
+  more x' same differ =
       record {
-        size = search (rules, places);
-        new = λ j l m. search (rules, places);
-        before = λ j l. search (rules, places);
-        after = λ j l. search (rules, places);
-        same = λ f j l m. rw (part-of xs j l m, part-of ys j l m) (ap (λ zs. get_or zs (j - start) 0) (sym (alike.0 (not-false _ (sym e ∙ f)))));
-        differ = λ f all. true-false (sym e ∙ f) (ap not (alike.1 (parts-alike all)));
+        size = length-set now i (get_or xs i 0) ∙ t.size;
+        new =
+            λ j l m.
+            elim (dec_lt j i) [
+              | yes b ↦ get_or-set_other now i j (get_or xs i 0) 0 (λ q. omega arith) ∙ t.new j l b
+              | no b ↦ let q : j ≡ i = omega arith in rw q (get_or-set_same now i (get_or xs i 0) 0 h)
+            ];
+        before = λ j l. get_or-set_other now i j (get_or xs i 0) 0 (λ q. omega arith) ∙ t.before j l;
+        after = λ j l. get_or-set_other now i j (get_or xs i 0) 0 (λ q. omega arith) ∙ t.after j (omega arith);
+        same = same;
+        differ = differ;
       }
+
+  pub copied-same : {x' : Bool} → get_or xs i 0 ≡ get_or now i 0 → x' ≡ x → Copied xs ys start (i + 1) x' (set now i (get_or xs i 0))
+  copied-same e q =
+      rw q
+      (more x
+      (λ f j l m.
+      elim (dec_lt j i)
+      [ yes b ↦ t.same f j l b | no b ↦ let q : j ≡ i = omega arith in rw q (e ∙ t.after i (omega arith)) ])
+      (λ f all. t.differ f (λ j l m. all j l (omega arith))))
+
+  pub copied-differ : {x' : Bool} → (get_or xs i 0 ≡ get_or now i 0 → ⊥) → x' ≡ true → Copied xs ys start (i + 1) x' (set now i (get_or xs i 0))
+  copied-differ d q =
+      rw q (more true (λ f. true-false refl f) (λ f all. d (all i s (omega arith) ∙ sym (t.after i (omega arith)))))
+
+pub copied_all : (xs ys now : List ℕ) (x : Bool) → length ys ≡ length xs → Copied xs ys 0 (length xs) x now → now ≡ xs
+copied_all xs ys now x size t =
+    ext_get_or 0 now xs (t.size ∙ size) (λ j h. t.new j (omega arith) (omega (arith, t.size)))

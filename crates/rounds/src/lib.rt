@@ -4,7 +4,7 @@
 ghost use Rattle.std.specs.Prelude.{◌≡◌, ◌≤◌, ◌<◌, length};
 ghost use Rattle.mesh.specs.Mesh.{mesh};
 ghost use Rattle.nodes.specs.Sized.{Sized};
-ghost use Rattle.rounds.specs.Rounds.{RowAfter, DueAfter, RowCopied, OthersSettled, Rounded, Near, Spread, QuietSettled, Settles};
+ghost use Rattle.rounds.specs.Rounds.{RowAfter, DueAfter, Copied, RowCopied, OthersSettled, Rounded, Near, Spread, QuietSettled, Settles};
 
 use mesh::{Column, Place, Row};
 use nodes::Nodes;
@@ -35,6 +35,20 @@ fn round(nodes: &Nodes, due: &[bool], next: &mut [u8])
     }
 }
 
+// Copies the numbers from start up to end over those of another list, and says whether that changes anything. One loop does both: the library's
+// comparison and copy of slices call functions of the C library, which a program for a board may not have.
+fn copy_part(from: &[u8], to: &mut [u8], start: usize, end: usize) -> bool
+    requires { (start ≤ end) × (end ≤ length from.now) × (end ≤ length to.old) }
+    ensures { Copied from.now to.old start end result to.new }
+{
+    let mut changed = false;
+    for i in start..end {
+        changed |= from[i] != to[i];
+        to[i] = from[i];
+    }
+    changed
+}
+
 // Copies row r if it is due, and says whether that changes anything.
 // Here and below columns, rows and out stay apart: a round reads out as `Nodes` and then writes it, which one value can't lend both ways.
 fn copy_row(columns: u32, rows: u32, next: &[u8], due: &[bool], out: &mut [u8], r: Row) -> bool
@@ -45,12 +59,7 @@ fn copy_row(columns: u32, rows: u32, next: &[u8], due: &[bool], out: &mut [u8], 
         return false;
     }
     let start = (r.0 * columns) as usize;
-    let end = start + columns as usize;
-    let from = &next[start..end];
-    let to = &mut out[start..end];
-    let changed = *to != *from;
-    to.copy_from_slice(from);
-    changed
+    copy_part(next, out, start, start + columns as usize)
 }
 
 // Copies the due rows; says of each row and of them all whether that changes anything.
@@ -138,6 +147,6 @@ pub fn mark(nodes: &Nodes, out: &mut [u8]) -> u32
     requires { length out.old ≡ length nodes.now.map }
     ensures { Settles nodes.now result out.new }
 {
-    out.copy_from_slice(nodes.map);
+    copy_part(nodes.map, out, 0, nodes.map.len());
     settle(nodes.columns, nodes.rows, out)
 }
