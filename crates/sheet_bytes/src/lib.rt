@@ -10,21 +10,27 @@ use sheet_words::{Command, read_line};
 use std::marker::Model;
 use theory_sheet::Phase;
 
-// The bytes of a line that are held: at most 20. In a clause they are a list.
-#[derive(Drop)]
+// The bytes of a line that are held: at most 20, with zeros after them. In a clause they are a list.
+#[derive(Clone, Copy)]
 pub struct Held {
     bytes: [u8; 20],
     len: usize,
 }
 
 impl Model for Held {
-    ghost use Rattle.std.specs.Prelude.{List, ℕ, ◌≤◌, take};
+    ghost use Rattle.std.specs.Prelude.{◌≡◌, List, ℕ, ◌≤◌, length, take};
+    ghost use Rattle.std.proofs.Common.{sym};
+    ghost use Rattle.sheet_bytes.specs.Holding.{padded};
 
     ghost Value = { List ℕ };
 
     ghost view = { λ h. take h.len h.bytes };
 
-    ghost invariant = { λ h. h.len ≤ 20 };
+    ghost invariant = { λ h. (h.len ≤ 20) × (length (take h.len h.bytes) ≡ h.len) × (h.bytes ≡ padded (take h.len h.bytes)) };
+
+    ghost inverse = { λ xs. record { bytes = padded xs; len = length xs } };
+
+    ghost inverse_ok = { λ h a i. record { bytes = sym a.2 i; len = a.1 i } };
 }
 
 impl Held {
@@ -37,7 +43,7 @@ impl Held {
         }
     }
 
-    fn bytes(&self) -> &[u8]
+    pub fn bytes(&self) -> &[u8]
         ensures { result.now ≡ self.now }
     {
         &self.bytes[..self.len]
@@ -60,7 +66,7 @@ impl Held {
 
 // A sheet being read: what the lines before this one have said, its number, what is held of it, and whether the run is over: a state, in which
 // the others are still there.
-#[derive(Drop)]
+#[derive(Clone, Copy)]
 pub struct Reader {
     pub sheet: Sheet,
     pub number: u32,

@@ -16,7 +16,7 @@ use sheet_prints::put_bad_line;
 use walk::MOST_HOPS;
 
 // A reader after some bytes, the index after what is printed, and how many bytes were taken.
-#[derive(Drop)]
+#[derive(Clone, Copy)]
 pub struct Taken {
     pub reader: Reader,
     pub at: usize,

@@ -30,7 +30,7 @@ pub fn write_whole<W: Write>(to: &mut W, bytes: &[u8]) -> Result<(), Unwritten>
 }
 
 // Answers that could not be written, and the reader after them.
-#[derive(Drop)]
+#[derive(Clone, Copy)]
 pub struct Stopped {
     pub reader: Reader,
 }
