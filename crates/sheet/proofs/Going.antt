@@ -1,6 +1,6 @@
 -- What the loop over the reads keeps: all that came was fed from the start and is answered, and each read that goes on leaves fewer bytes to take.
 -- Assumes nothing.
-use Rattle.std.proofs.Common.{◌≡◌, Bool, true, false, List, [], ◌++◌, ℕ, ◌≤◌, ◌<◌, Option, Some, None, Result, Ok, Err, length, take, refl, sym, ap, ◌∙◌, arith}
+use Rattle.std.proofs.Common.{◌≡◌, Bool, true, false, List, [], ◌++◌, ℕ, ◌≤◌, ◌<◌, Option, Some, None, Result, Ok, Err, length, take, inr, refl, sym, ap, ◌∙◌, arith}
 use Rattle.std.proofs.Math.Decide.{dec_lt}
 use Rattle.std.proofs.lemmas.Bool.{ltb-true, lt-ltb, not-true}
 use Rattle.std.proofs.lemmas.List.{length-take-le}
@@ -36,6 +36,7 @@ takes-none {held = held} e =
       came = keeps-consumed _ _ e;
       writes = record { whole = λ _. Appends-nil held; part = part-all [] (Appends-nil held) };
       ends = λ _. tt;
+      told = λ _ _. inr refl;
     }
 
 -- the bytes so far were fed from the start and are answered, and the run is not over

@@ -1,9 +1,9 @@
 -- What the program's loops promise: the reader is what the definition says of all bytes read, and what is written is what they print. Of a
 -- reader or a writer whose bytes are not known, as the standard streams, no contract can say more. Assumes nothing.
-use Rattle.std.specs.Prelude.{◌≡◌, Bool, true, false, not, ◌&&◌, ◌⊎◌, List, [], ◌∷◌, ◌++◌, ℕ, ◌≤◌, ltb, length, take, codes, Option, Result, Ok, Err, IfOk}
+use Rattle.std.specs.Prelude.{◌≡◌, Bool, true, false, not, ◌&&◌, ◌⊎◌, List, [], ◌∷◌, ◌++◌, ℕ, ◌≤◌, ltb, length, take, codes, Option, Result, Ok, Err, is_ok, IfOk, IfErr, ⊤}
 use Rattle.std.specs.Io.KnownBytes.{Consumes, IsAtEnd, Keeps}
 use Rattle.theory_sheet.specs.Reader as theory
-use Rattle.theory_sheet.specs.Reader.{begun, feed_all}
+use Rattle.theory_sheet.specs.Reader.{begun, feed_all, finish}
 use Rattle.sheet_bytes.specs.Reading.{reader_of, Reading}
 use Rattle.sheet_writer.specs.Writing.{AppendsPart, Answers, Writes}
 use Rattle.sheet.specs.declared.Failed.{Failed}
@@ -22,13 +22,14 @@ is_written (Err Unread) = true
 is_written (Err Unwritten) = false
 
 -- bytes came, which are what a reader had left, and are answered as far as they could be; nothing came only where it is at its end, or the
--- read failed
+-- read failed, and then that is what failed
 pub record Takes (r : theory.Reader) (left left' held held' : Option (List ℕ)) (x : Result Read Failed) (room : ℕ) (chunk : List ℕ) : Type 0 where
   pub bytes : List ℕ
   pub is : IfOk x (λ y. bytes ≡ take y.came chunk)
   pub came : Consumes left left' bytes
   pub writes : Writes held held' (feed_all r bytes).printed (is_written x)
   pub ends : 1 ≤ room → IfOk x (λ y. y.came ≡ 0 → IsAtEnd left')
+  pub told : 1 ≤ room → IfErr x (λ why. bytes ≡ [] → IsAtEnd left' ⊎ (why ≡ Unread))
 
 -- reading goes on: something came, and the run is not over
 unfoldable pub goes_on : Read → Bool
@@ -53,6 +54,12 @@ pub record AnswersAll (left left' held held' : Option (List ℕ)) (room : ℕ) (
   pub writes : Writes held held' (feed_all begun bytes).printed (is_written x)
   pub ends : 1 ≤ room → IfOk x (λ y. y.reader.over ≡ false → IsAtEnd left')
 
+-- what failed before is still what failed, and nothing more is printed; else the end is, and only writing it can fail
+pub record Ends (held held' : Option (List ℕ)) (last : Result Read Failed) (map : List ℕ) (x : Result ⊤ Failed) : Type 0 where
+  pub failed : IfErr last (λ why. (x ≡ Err why) × Keeps held held')
+  pub writes : IfOk last (λ y. Writes held held' (finish (reader_of y.reader map)) (is_ok x))
+  pub unwritten : IfOk last (λ _. IfErr x (λ why. why ≡ Unwritten))
+
 abbrev pub cannot_read : List ℕ
 cannot_read = codes "sheet: cannot read" ++ (10 ∷ [])
 
@@ -64,7 +71,12 @@ abbrev pub told_of : Failed → List ℕ
 told_of Unread = cannot_read
 told_of Unwritten = cannot_write
 
--- nothing is told where all went well, else what failed, once; of which, where that fails too, a first part
+-- nothing is told where all went well, else what failed; of which, where that fails too, a first part
+pub record Tells (told told' : Option (List ℕ)) (x : Result ⊤ Failed) (all : Bool) : Type 0 where
+  pub silent : IfOk x (λ _. (all ≡ true) × Keeps told told')
+  pub failed : IfErr x (λ why. (all ≡ false) × AppendsPart told told' (told_of why))
+
+-- once
 pub record TellsOnce (told told' : Option (List ℕ)) (all : Bool) : Type 0 where
   pub silent : all ≡ true → Keeps told told'
   pub once : all ≡ false → AppendsPart told told' cannot_read ⊎ AppendsPart told told' cannot_write

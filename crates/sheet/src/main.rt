@@ -7,7 +7,7 @@ ghost use Rattle.sheet_writer.specs.Writing.{AppendsPart, Writes};
 ghost use Rattle.sheet_lines.specs.Answers.{answer_room};
 ghost use Rattle.sheet_bytes.specs.Reading.{reader_of, Reading};
 ghost use Rattle.sheet.specs.declared.Failed.TheVariants.{Unwritten as Unanswered};
-ghost use Rattle.sheet.specs.Program.{Reads, Takes, goes_on, ReadsAll, AnswersAll, told_of, TellsOnce};
+ghost use Rattle.sheet.specs.Program.{Reads, Takes, goes_on, ReadsAll, AnswersAll, Ends, told_of, Tells, TellsOnce};
 
 use sheet_bytes::{Reader, begin};
 use sheet_reader::finish;
@@ -38,7 +38,7 @@ impl From<Stopped> for Failed {
 }
 
 // What came of a read: how many bytes, and the reader after them.
-#[derive(Drop)]
+#[derive(Clone, Copy)]
 struct Read {
     came: usize,
     reader: Reader,
@@ -92,6 +92,22 @@ fn read_all<R: io::Read, W: io::Write>(
     }
 }
 
+// The end of the sheet, once all of it is read. What failed before is still what failed, and nothing more is printed.
+fn end_sheet<W: io::Write>(
+    to: &mut W,
+    last: Result<Read, Failed>,
+    map: &mut [u8],
+    out: &mut [u8],
+) -> Result<(), Failed>
+    requires { IfOk last (λ x. Reading x.reader map.old) × (answer_room ≤ length out.old) }
+    ensures { Ends (W.contents to.old) (W.contents to.new) last map.old result }
+{
+    let read = last?;
+    let at = finish(read.reader, map, out, 0);
+    write_whole(to, &out[..at])?;
+    Ok(())
+}
+
 // The whole sheet. What is written is what is defined for it, or where a read or a write failed a first part of that.
 fn answer_sheet<R: io::Read, W: io::Write>(
     from: &mut R,
@@ -103,10 +119,8 @@ fn answer_sheet<R: io::Read, W: io::Write>(
     requires { (4096 ≤ length map.old) × (answer_room ≤ length out.old) }
     ensures { 1 ≤ length chunk.old → IfSome (R.remaining from.old) (λ xs. Writes (W.contents to.old) (W.contents to.new) (sheet xs) (is_ok result)) }
 {
-    let last = read_all(from, to, chunk, map, out)?;
-    let at = finish(last.reader, map, out, 0);
-    write_whole(to, &out[..at])?;
-    Ok(())
+    let last = read_all(from, to, chunk, map, out);
+    end_sheet(to, last, map, out)
 }
 
 // Says what failed; of which, where that fails too, a first part.
@@ -117,6 +131,19 @@ fn tell_failed<E: io::Write>(tell: &mut E, why: Failed)
         Failed::Unread => write_whole(tell, b"sheet: cannot read\n"),
         Failed::Unwritten => write_whole(tell, b"sheet: cannot write\n"),
     };
+}
+
+// Says what failed, if something did; and whether all went well.
+fn tell_end<E: io::Write>(tell: &mut E, ended: Result<(), Failed>) -> bool
+    ensures { Tells (E.contents tell.old) (E.contents tell.new) ended result }
+{
+    match ended {
+        Ok(()) => true,
+        Err(why) => {
+            tell_failed(tell, why);
+            false
+        }
+    }
 }
 
 // The whole sheet; and whether all of it was read and answered. Where a read or a write failed a message says so, and nothing more is printed.
@@ -132,13 +159,8 @@ fn run<R: io::Read, W: io::Write, E: io::Write>(
     ensures writes { 1 ≤ length chunk.old → IfSome (R.remaining from.old) (λ xs. Writes (W.contents to.old) (W.contents to.new) (sheet xs) result) }
     ensures tells { TellsOnce (E.contents tell.old) (E.contents tell.new) result }
 {
-    match answer_sheet(from, to, chunk, map, out) {
-        Ok(()) => true,
-        Err(why) => {
-            tell_failed(tell, why);
-            false
-        }
-    }
+    let ended = answer_sheet(from, to, chunk, map, out);
+    tell_end(tell, ended)
 }
 
 fn main(rt: HostRuntime) {
