@@ -1,6 +1,7 @@
 -- A record that is left unchanged is the same numbers. Assumes nothing.
-use Rattle.std.proofs.Common.{◌≡◌, refl, true, List, [], ◌∷◌, ℕ, zero, suc, ◌<◌, eqb, ltb, length, get_or, arith}
+use Rattle.std.proofs.Common.{◌≡◌, refl, sym, ap, true, List, [], ◌∷◌, ℕ, zero, suc, ◌<◌, eqb, ltb, length, get_or, arith}
 use borrow.Author.Tests.{eqb-true, ltb-true}
+use lib.ListN.{set}
 use Rattle.mesh.specs.Headings.{last_of, last_number}
 use Rattle.mesh.proofs.Bools.{and_both}
 use Rattle.c_moving.specs.Numbers.{is_record, packet_of, numbers_of}
@@ -14,6 +15,10 @@ five (u ∷ v ∷ w ∷ []) h = absurd (omega arith)
 five (u ∷ v ∷ w ∷ x ∷ []) h = absurd (omega arith)
 five (u ∷ v ∷ w ∷ x ∷ y ∷ []) h = refl
 five (u ∷ v ∷ w ∷ x ∷ y ∷ z ∷ zs) h = absurd (omega arith)
+
+-- a list of five numbers, of which each is put in its place
+pub filled : (xs : List ℕ) (a b c d e : ℕ) → length xs ≡ 5 → set (set (set (set (set xs 0 a) 1 b) 2 c) 3 d) 4 e ≡ a ∷ b ∷ c ∷ d ∷ e ∷ []
+filled xs a b c d e h = ap (λ ys. set (set (set (set (set ys 0 a) 1 b) 2 c) 3 d) 4 e) (sym (five xs h))
 
 last-kept : (n : ℕ) → n < 5 → last_number (last_of n) ≡ n
 unfolding last_of
