@@ -11,6 +11,7 @@ use numbers::answer_code;
 use theory_draw::DrawRefusal;
 
 // The number of distinct faults, or 65,536 plus the refusal. One call, and public: its clause says what the number is.
+#[tactic(auto, unfolding(mesh::specs::Numbers::answer_code, mesh::specs::Numbers::refusal_code))]
 pub fn drawn_code(answer: Result<u32, DrawRefusal>) -> u32
     ensures { result ≡ answer_code (drawn_answer answer) }
 {

@@ -1,24 +1,18 @@
 -- The promise of either operation, told in numbers. Assumes nothing.
-use Rattle.std.proofs.Common.{◌≡◌, ℕ, List, Result, Ok, Err, ap, ◌∙◌}
-use Rattle.std.specs.Prelude.{MatchResult}
+use Rattle.std.proofs.Common.{◌≡◌, ℕ, List, Result, ap, ◌∙◌}
 use Rattle.mesh.specs.Tests.{Test}
 use Rattle.mesh.specs.Numbers.{answer_refusal}
 use Rattle.mesh.proofs.Numbers.{answer-refusal}
 use Rattle.numbers.specs.Returned.{put_returned}
 use Rattle.theory_legs.specs.declared.LegRefusal.{LegRefusal}
-use Rattle.theory_legs.specs.Converting.{leg_refusal_number, converted_answer, Converts}
+use Rattle.theory_legs.specs.Converting.{converted_answer, Converts}
 use Rattle.c_legs.specs.Numbers.{ConvertsInNumbers}
 
-refused : {x : ℕ} (r : Result ℕ LegRefusal) → MatchResult r (λ n. x ≡ 0) (λ why. x ≡ leg_refusal_number why) → x ≡ answer_refusal (converted_answer r)
-refused (Ok n) e = e
-refused (Err why) e = e
-
 pub converts : {tests : List Test} {new out count out' count' : List ℕ} {x : ℕ} {r : Result ℕ LegRefusal} → Converts tests new out r out' →
-    count' ≡ put_returned (converted_answer r) count → MatchResult r (λ n. x ≡ 0) (λ why. x ≡ leg_refusal_number why) →
-    ConvertsInNumbers tests new out count x out' count'
-converts {count = count} {r = r} does counts refuses =
+    count' ≡ put_returned (converted_answer r) count → x ≡ answer_refusal (converted_answer r) → ConvertsInNumbers tests new out count x out' count'
+converts {count = count} does counts refuses =
     record {
-      refuses = refused r refuses ∙ ap answer_refusal does.answers ∙ answer-refusal _ _;
+      refuses = refuses ∙ ap answer_refusal does.answers ∙ answer-refusal _ _;
       writes = does.writes;
       counts = counts ∙ ap (λ a. put_returned a count) does.answers;
     }

@@ -2,6 +2,7 @@
 #![tactic(auto)]
 
 ghost use Rattle.std.specs.Prelude.{◌≡◌};
+ghost use Rattle.mesh.specs.Numbers.{answer_refusal};
 ghost use Rattle.numbers.specs.Returned.{put_returned};
 ghost use Rattle.theory_legs.specs.Converting.{converted_answer};
 ghost use Rattle.c_legs.specs.Numbers.{LettersToLegsInNumbers, LegsToLettersInNumbers};
@@ -21,12 +22,19 @@ fn put_written(answer: Result<usize, LegRefusal>, written: &mut [u64])
     }
 }
 
+// The refusal, or 0.
+fn converted_code(answer: Result<usize, LegRefusal>) -> u32
+    ensures { result ≡ answer_refusal (converted_answer answer) }
+{
+    refusal_of(answer)
+}
+
 pub fn pinduguil_letters_to_legs(letters: &[u8], out: &mut [u8], written: &mut [u64]) -> u32
     ensures { LettersToLegsInNumbers letters.now out.old written.old result out.new written.new }
 {
     let answer = letters_to_legs(letters, out);
     put_written(answer, written);
-    refusal_of(answer)
+    converted_code(answer)
 }
 
 pub fn pinduguil_legs_to_letters(file: &[u8], out: &mut [u8], written: &mut [u64]) -> u32
@@ -34,5 +42,5 @@ pub fn pinduguil_legs_to_letters(file: &[u8], out: &mut [u8], written: &mut [u64
 {
     let answer = legs_to_letters(file, out);
     put_written(answer, written);
-    refusal_of(answer)
+    converted_code(answer)
 }

@@ -22,7 +22,7 @@ pub fn place_of(row: u32, column: u32) -> Place
 }
 
 // Whether it is the number of a network.
-#[tactic(auto, unfolding(mesh::specs::Numbers::network_read))]
+#[tactic(auto, unfolding(mesh::specs::Numbers::network_read, mesh::specs::Numbers::is_network))]
 pub fn is_network(n: u32) -> bool
     ensures { result ≡ is_network n }
 {

@@ -13,7 +13,7 @@ use nodes::Nodes;
 use parity::turns_west;
 
 // Refusals 6 and 7, in this order: source or destination off the mesh; source or destination in a block.
-#[tactic(auto, unfolding(mesh::specs::Requests::place_tests, mesh::specs::Requests::off_mesh, mesh::specs::Requests::in_block, mesh::specs::Tests::first))]
+#[tactic(auto, unfolding(mesh::specs::Requests::place_tests, mesh::specs::Requests::off_mesh, mesh::specs::Requests::in_block, mesh::specs::Mesh::on_mesh, mesh::specs::Tests::first))]
 pub fn check_places(nodes: &Nodes, s: Place, d: Place) -> Result<(), Refusal>
     ensures { checked_number result ≡ first (place_tests nodes.now s d) }
 {

@@ -3,4 +3,4 @@ use Rattle.c_legs.proofs.Numbers.{converts}
 use Rattle.c_legs.proofs.pinduguil_legs_to_letters.Goals as goal
 
 pub returns : goal.returns
-returns c = converts c.legs_to_letters-answer.ensures c.put_written.ensures c.refusal_of.ensures
+returns c = converts c.legs_to_letters-answer.ensures c.put_written.ensures c.converted_code.ensures

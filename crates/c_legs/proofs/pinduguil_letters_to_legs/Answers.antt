@@ -3,4 +3,4 @@ use Rattle.c_legs.proofs.Numbers.{converts}
 use Rattle.c_legs.proofs.pinduguil_letters_to_legs.Goals as goal
 
 pub returns : goal.returns
-returns c = converts c.letters_to_legs-answer.ensures c.put_written.ensures c.refusal_of.ensures
+returns c = converts c.letters_to_legs-answer.ensures c.put_written.ensures c.converted_code.ensures
