@@ -22,7 +22,7 @@ fn put_written(answer: Result<usize, LegRefusal>, written: &mut [u64])
     }
 }
 
-// The refusal, or 0.
+// The refusal, or 0. One call, and a function all the same: its clause says so in the words of the definitions, for both ways.
 fn converted_code(answer: Result<usize, LegRefusal>) -> u32
     ensures { result ≡ answer_refusal (converted_answer answer) }
 {

@@ -1,4 +1,4 @@
--- Of a read that failed nothing is answered. Assumes nothing.
+-- Of a read that failed nothing is answered, else what came. Assumes nothing.
 use Rattle.std.proofs.Common.{◌≡◌, Err, take, refl, arith, rules}
 use Rattle.std.specs.Io.KnownBytes.{Keeps}
 use Rattle.std.proofs.lemmas.Grind.{common_steps}
